@@ -1,0 +1,10 @@
+pub mod Counts
+pub mod Examples
+pub mod Figures
+pub mod Gap
+pub mod Lists
+pub mod Readings
+pub mod Steps
+pub mod Total
+pub mod Views
+pub mod Walk

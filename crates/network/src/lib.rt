@@ -1,0 +1,10 @@
+// What a network is, the registers that hold one, and the numbers by which an order is refused.
+mod image;
+mod refusal;
+mod register;
+
+pub use image::image_stands;
+pub use refusal::LoadRefusal;
+pub use refusal::Refusal;
+pub use register::Circuit;
+pub use register::Register;

@@ -1,0 +1,6 @@
+pub mod ArcPairs
+pub mod ArcRoutes
+pub mod Carrying
+pub mod LaneCount
+pub mod Members
+pub mod Plans

@@ -1,0 +1,7 @@
+pub mod AllRoutes
+pub mod AnswerTest
+pub mod AnswerTestSound
+pub mod CarryTest
+pub mod NetworkTest
+pub mod OneAnswer
+pub mod WorkedLines
