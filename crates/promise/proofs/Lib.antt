@@ -3,4 +3,5 @@ pub mod ArcRoutes
 pub mod Carrying
 pub mod LaneCount
 pub mod Members
+pub mod PairBandwidth
 pub mod Plans

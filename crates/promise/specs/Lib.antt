@@ -1,3 +1,4 @@
+pub mod Bandwidth
 pub mod Lanes
 pub mod Ledger
 pub mod Promise
