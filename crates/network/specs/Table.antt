@@ -6,7 +6,7 @@ use Prim.Native.Nat.{ℕ, _<_, _≤_}
 use lib.ListN.{length, getD}
 use Rattle.network.specs.Checks.{Check, check, First, Passed}
 use Rattle.network.specs.declared.register.Circuit.{Circuit}
-use Rattle.network.specs.Network.{Network, Sound, Proper, circuit}
+use Rattle.network.specs.Network.{Network, Sound, Proper, circuit, no-circuit}
 use Rattle.network.specs.Image.{BadEnds, BadFigures}
 
 abbrev pub count-checks : Network → List Check
@@ -18,3 +18,20 @@ record-checks n i = check 5 (BadEnds (n .places) (circuit n i)) ∷ check 6 (Bad
 -- the load is refused with that number at that record
 abbrev pub Refused : Network → ℕ → ℕ → Type 0
 Refused n number at = ((at ≡ 0) × First number (count-checks n)) ⊎ (Passed (count-checks n) × (at < length (n .circuits)) × First number (record-checks n at) × ((i : ℕ) → i < at → Sound (n .places) (circuit n i)))
+
+-- the network of that many places and those circuits
+abbrev pub table : ℕ → List Circuit → Network
+table places circuits = record { places = places; circuits = circuits }
+
+-- each circuit joins two different ones of that many places
+abbrev pub GoodEnds : ℕ → List Circuit → Type 0
+GoodEnds places circuits = (i : ℕ) → i < length circuits → (getD circuits i no-circuit .from < places) × (getD circuits i no-circuit .to < places) × (getD circuits i no-circuit .from ≡ getD circuits i no-circuit .to → ⊥)
+
+-- the bandwidth and the cost of each circuit are within their limits
+abbrev pub GoodFigures : List Circuit → Type 0
+GoodFigures circuits = (i : ℕ) → i < length circuits → (1 ≤ getD circuits i no-circuit .bandwidth) × (getD circuits i no-circuit .bandwidth ≤ 64000000) × (getD circuits i no-circuit .cost ≤ 1000000)
+
+-- the limits, told of a table, are those of its network
+pub table-proper : (places : ℕ) (circuits : List Circuit) → places ≤ 128 → length circuits ≤ 384 → GoodEnds places circuits → GoodFigures circuits → Proper (table places circuits)
+table-proper places circuits p c e f =
+    record { few-places = p; few-circuits = c; each = λ i h. record { from-place = e i h .0; to-place = e i h .1; apart = e i h .2; some-bandwidth = f i h .0; most-bandwidth = f i h .1; most-cost = f i h .2 } }
