@@ -12,8 +12,12 @@ use Rattle.network.specs.Image.{BadEnds, BadFigures}
 abbrev pub count-checks : Network → List Check
 count-checks n = check 7 ((128 < n .places) ⊎ (384 < length (n .circuits))) ∷ []
 
+-- what is checked of a record among that many places: its ends, and then its figures
+abbrev pub circuit-checks : ℕ → Circuit → List Check
+circuit-checks places c = check 5 (BadEnds places c) ∷ check 6 (BadFigures c) ∷ []
+
 abbrev pub record-checks : Network → ℕ → List Check
-record-checks n i = check 5 (BadEnds (n .places) (circuit n i)) ∷ check 6 (BadFigures (circuit n i)) ∷ []
+record-checks n i = circuit-checks (n .places) (circuit n i)
 
 -- the load is refused with that number at that record
 abbrev pub Refused : Network → ℕ → ℕ → Type 0

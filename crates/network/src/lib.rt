@@ -6,10 +6,10 @@ mod route;
 mod table;
 
 pub use image::image_stands;
-pub use route::main_route;
 pub use refusal::LoadRefusal;
 pub use refusal::Refusal;
 pub use register::Circuit;
 pub use register::Register;
+pub use route::main_route;
 pub use table::TableRegister;
 pub use table::TableRegisterRegister;

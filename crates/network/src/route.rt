@@ -4,7 +4,6 @@ ghost use Prim.Native.Nat.{_≤_};
 ghost use lib.ListN.{length};
 ghost use Rattle.std.specs.declared.result.Result.the-variants.{Ok, Err};
 ghost use Rattle.network.specs.MainRoute.{shorter, Beyond};
-
 use super::refusal::Refusal;
 
 // The route of fewer circuits, the first where both hold as many, as a part of the caller's own list.

@@ -4,8 +4,11 @@ ghost use mathlib.Core.List.{[]};
 ghost use Prim.Native.Nat.{_≤_};
 ghost use lib.ListN.{length};
 ghost use Rattle.network.specs.Network.{Proper, Sound};
-ghost use Rattle.network.specs.Table.{table, GoodEnds, GoodFigures, table-proper};
-
+ghost use Rattle.std.specs.declared.option.Option.the-variants.{Some, None};
+ghost use Rattle.std.specs.declared.result.Result.the-variants.{Ok, Err};
+ghost use Rattle.network.specs.Checks.{First};
+ghost use Rattle.network.specs.Refusals.{number-of};
+ghost use Rattle.network.specs.Table.{Refused, circuit-checks, table, GoodEnds, GoodFigures, table-proper};
 use super::refusal::LoadRefusal;
 use super::refusal::Refusal;
 use super::register::Circuit;
@@ -28,8 +31,45 @@ impl<'a> TableRegister<'a> {
     pub fn empty() -> TableRegister<'a>
         ensures { λ r. ⌜ table (r .places) (now (r .circuits)) ≡ table 0 [] ⌝ }
     {
-        TableRegister { places: 0, circuits: &NO_CIRCUITS }
+        TableRegister {
+            places: 0,
+            circuits: &NO_CIRCUITS,
+        }
     }
+
+    // Accepted exactly where the table keeps the limits; it then stands in place of what the register held.
+    // Refused, it leaves the register as it was.
+    pub fn load(&mut self, places: u32, circuits: &'a [Circuit]) -> Result<(), LoadRefusal>
+        ensures { λ r. ⌜ elim r [ Ok _ ↦ Proper (table places (now (circuits .entry))) × (table (now (self .exit) .places) (now (now (self .exit) .circuits)) ≡ table places (now (circuits .entry))) | Err e ↦ Refused (table places (now (circuits .entry))) (number-of (e .refusal)) (e .at) × (now (self .exit) ≡ now (self .entry)) ] ⌝ }
+    {
+        if places > 128 || circuits.len() > 384 {
+            return Err(LoadRefusal {
+                refusal: Refusal::Full,
+                at: 0,
+            });
+        }
+        let places = places as u16;
+        for (at, circuit) in circuits.iter().enumerate() {
+            if let Some(refusal) = fault(places, *circuit) {
+                return Err(LoadRefusal { refusal, at });
+            }
+        }
+        *self = TableRegister { places, circuits };
+        Ok(())
+    }
+}
+
+// The first check that a record fails among that many places: its ends, then its figures.
+fn fault(places: u16, circuit: Circuit) -> Option<Refusal>
+    ensures { λ r. ⌜ elim r [ None ↦ Sound places circuit | Some e ↦ First (number-of e) (circuit-checks places circuit) ] ⌝ }
+{
+    if circuit.from >= places || circuit.to >= places || circuit.from == circuit.to {
+        return Some(Refusal::Ends);
+    }
+    if circuit.bandwidth < 1 || circuit.bandwidth > 64_000_000 || circuit.cost > 1_000_000 {
+        return Some(Refusal::Figure);
+    }
+    None
 }
 
 pub impl Register for TableRegister<'_> as TableRegisterRegister {
