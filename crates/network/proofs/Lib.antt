@@ -5,6 +5,7 @@ pub mod Gap
 pub mod Lists
 pub mod Readings
 pub mod Steps
+pub mod Tables
 pub mod Total
 pub mod Views
 pub mod Walk

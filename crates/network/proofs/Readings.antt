@@ -125,7 +125,7 @@ same-reading n m c d r s g h p q e =
     same-names n m c d r s g h p q (walk place-bytes Name cut-place n m (concat (map circuit-bytes c) ++ r) (concat (map circuit-bytes d) ++ s) (g .names-fit) (h .names-fit) (sym (append-assoc (concat (map place-bytes n)) (concat (map circuit-bytes c)) r) ∙ e ∙ append-assoc (concat (map place-bytes m)) (concat (map circuit-bytes d)) s))
 
 -- the first failed check is one
-one-first : (k j : ℕ) (cs : List Check) → First k cs → First j cs → k ≡ j
+pub one-first : (k j : ℕ) (cs : List Check) → First k cs → First j cs → k ≡ j
 one-first k j [] p q = absurd p
 one-first k j (c ∷ cs) (inl p) (inl q) = p .0 ∙ sym (q .0)
 one-first k j (c ∷ cs) (inl p) (inr q) = absurd (q .0 (p .1))
@@ -196,12 +196,12 @@ pub told-circuit : (names : List (List ℕ)) (circuits : List Circuit) (c : Circ
 told-circuit names circuits c more f =
     same-circuit (told names circuits (circuit-bytes c ++ more)) c (two-of (c .from) (f .from-fits)) (two-of (c .to) (f .to-fits)) (four-of (c .bandwidth) (f .bandwidth-fits)) (four-of (c .cost) (f .cost-fits))
 
-good-ends : (n : ℕ) (c : Circuit) → Sound n c → BadEnds n c → ⊥
+pub good-ends : (n : ℕ) (c : Circuit) → Sound n c → BadEnds n c → ⊥
 good-ends n c s (inl h) = omega (arith, s .from-place)
 good-ends n c s (inr (inl h)) = omega (arith, s .to-place)
 good-ends n c s (inr (inr h)) = s .apart h
 
-good-figures : (n : ℕ) (c : Circuit) → Sound n c → BadFigures c → ⊥
+pub good-figures : (n : ℕ) (c : Circuit) → Sound n c → BadFigures c → ⊥
 good-figures n c s (inl h) = omega (arith, s .some-bandwidth)
 good-figures n c s (inr (inl h)) = omega (arith, s .most-bandwidth)
 good-figures n c s (inr (inr h)) = omega (arith, s .most-cost)

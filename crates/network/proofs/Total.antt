@@ -14,7 +14,7 @@ use Rattle.network.specs.Image.{at16, PL, CT, EN, end-bytes, records-bytes, Re
 use Rattle.network.specs.Claims.{Loads, Fails, Outcome, At}
 use Rattle.network.proofs.Steps.{Bytes, each-read, at-start, sound-told, place-step, circuit-step, end-step, refuse, told-name}
 
-abbrev Settled : Type 0 → Type 0
+abbrev pub Settled : Type 0 → Type 0
 Settled P = P ⊎ (P → ⊥)
 
 both : (P Q : Type 0) → Settled P → Settled Q → Settled (P × Q)
@@ -22,7 +22,7 @@ both P Q (inl p) (inl q) = inl (p, q)
 both P Q (inl p) (inr q) = inr (λ h. q (h .1))
 both P Q (inr p) q = inr (λ h. p (h .0))
 
-either : (P Q : Type 0) → Settled P → Settled Q → Settled (P ⊎ Q)
+pub either : (P Q : Type 0) → Settled P → Settled Q → Settled (P ⊎ Q)
 either P Q (inl p) q = inl (inl p)
 either P Q (inr p) (inl q) = inl (inr q)
 either P Q (inr p) (inr q) = inr (λ h. ⊎-elim p q h)
@@ -31,7 +31,7 @@ opposite : (P : Type 0) → Settled P → Settled (P → ⊥)
 opposite P (inl p) = inr (λ h. h p)
 opposite P (inr p) = inl p
 
-below : (m n : ℕ) → Settled (m < n)
+pub below : (m n : ℕ) → Settled (m < n)
 below m n = ⊎-elim (λ h. inl h) (λ h. inr (λ k. omega arith)) (cases-lt m n)
 
 upto : (m n : ℕ) → Settled (m ≤ n)
@@ -53,11 +53,11 @@ repeats x [] = inr (λ h. h)
 repeats x (y ∷ ys) = either (x ≡ y) (Repeats x ys) (alike x y) (repeats x ys)
 
 -- checks that are each settled: one is the first to fail, or all pass
-abbrev Settles : List Check → Type 0
+abbrev pub Settles : List Check → Type 0
 Settles [] = Unit {0}
 Settles (c ∷ cs) = Settled (c .fails) × Settles cs
 
-abbrev Verdict : List Check → Type 0
+abbrev pub Verdict : List Check → Type 0
 Verdict cs = ((k : ℕ) × First k cs) ⊎ Passed cs
 
 verdict-more : (c : Check) (cs : List Check) → Settled (c .fails) → Verdict cs → Verdict (c ∷ cs)
@@ -65,7 +65,7 @@ verdict-more c cs (inl f) v = inl (c .number, inl (refl, f))
 verdict-more c cs (inr p) (inl f) = inl (f .0, inr (p, f .1))
 verdict-more c cs (inr p) (inr q) = inr (p, q)
 
-verdict : (cs : List Check) → Settles cs → Verdict cs
+pub verdict : (cs : List Check) → Settles cs → Verdict cs
 verdict [] s = inr tt
 verdict (c ∷ cs) s = verdict-more c cs (s .0) (verdict cs (s .1))
 
@@ -73,10 +73,10 @@ stable : (P : Type 0) → Settled P → ((P → ⊥) → ⊥) → P
 stable P (inl p) h = p
 stable P (inr p) h = absurd (h p)
 
-ends-settled : (n : ℕ) (c : Circuit) → Settled (BadEnds n c)
+pub ends-settled : (n : ℕ) (c : Circuit) → Settled (BadEnds n c)
 ends-settled n c = either (n ≤ c .from) ((n ≤ c .to) ⊎ (c .from ≡ c .to)) (upto n (c .from)) (either (n ≤ c .to) (c .from ≡ c .to) (upto n (c .to)) (cases-eq (c .from) (c .to)))
 
-figures-settled : (c : Circuit) → Settled (BadFigures c)
+pub figures-settled : (c : Circuit) → Settled (BadFigures c)
 figures-settled c = either (c .bandwidth < 1) ((64000000 < c .bandwidth) ⊎ (1000000 < c .cost)) (below (c .bandwidth) 1) (either (64000000 < c .bandwidth) (1000000 < c .cost) (below 64000000 (c .bandwidth)) (below 1000000 (c .cost)))
 
 module _ (bytes : List ℕ) (w : Bytes bytes) where

@@ -39,3 +39,21 @@ GoodFigures circuits = (i : ℕ) → i < length circuits → (1 ≤ getD circuit
 pub table-proper : (places : ℕ) (circuits : List Circuit) → places ≤ 128 → length circuits ≤ 384 → GoodEnds places circuits → GoodFigures circuits → Proper (table places circuits)
 table-proper places circuits p c e f =
     record { few-places = p; few-circuits = c; each = λ i h. record { from-place = e i h .0; to-place = e i h .1; apart = e i h .2; some-bandwidth = f i h .0; most-bandwidth = f i h .1; most-cost = f i h .2 } }
+
+-- a load is refused, with some number at some record
+pub record Fails (n : Network) : Type 0 where
+  pub number : ℕ
+  pub at : ℕ
+  pub refused : Refused n number at
+
+-- what keeps the limits is not refused
+abbrev pub ProperNotRefused : Type 0
+ProperNotRefused = (n : Network) (number at : ℕ) → Proper n → Refused n number at → ⊥
+
+-- a refusal has one number and one record
+abbrev pub OneTableRefusal : Type 0
+OneTableRefusal = (n : Network) (number number′ at at′ : ℕ) → Refused n number at → Refused n number′ at′ → (number ≡ number′) × (at ≡ at′)
+
+-- every table keeps the limits or is refused
+abbrev pub ProperOrRefused : Type 0
+ProperOrRefused = (n : Network) → Proper n ⊎ Fails n

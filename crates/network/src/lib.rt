@@ -13,3 +13,4 @@ pub use register::Register;
 pub use route::main_route;
 pub use table::TableRegister;
 pub use table::TableRegisterRegister;
+pub use table::table_stands;

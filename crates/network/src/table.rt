@@ -8,7 +8,7 @@ ghost use Rattle.std.specs.declared.option.Option.the-variants.{Some, None};
 ghost use Rattle.std.specs.declared.result.Result.the-variants.{Ok, Err};
 ghost use Rattle.network.specs.Checks.{First};
 ghost use Rattle.network.specs.Refusals.{number-of};
-ghost use Rattle.network.specs.Table.{Refused, circuit-checks, table, GoodEnds, GoodFigures, table-proper};
+ghost use Rattle.network.specs.Table.{Refused, ProperOrRefused, ProperNotRefused, OneTableRefusal, circuit-checks, table, GoodEnds, GoodFigures, table-proper};
 use super::refusal::LoadRefusal;
 use super::refusal::Refusal;
 use super::register::Circuit;
@@ -70,6 +70,15 @@ fn fault(places: u16, circuit: Circuit) -> Option<Refusal>
         return Some(Refusal::Figure);
     }
     None
+}
+
+// A table keeps the limits or is refused, and never both; a refusal has one number at one record.
+pub fn table_stands() -> u8
+    ensures total { λ _. ⌜ ProperOrRefused ⌝ }
+    ensures apart { λ _. ⌜ ProperNotRefused ⌝ }
+    ensures refusal { λ _. ⌜ OneTableRefusal ⌝ }
+{
+    1
 }
 
 pub impl Register for TableRegister<'_> as TableRegisterRegister {
