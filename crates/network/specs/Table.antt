@@ -9,6 +9,7 @@ use Rattle.network.specs.declared.register.Circuit.{Circuit}
 use Rattle.network.specs.Network.{Network, Sound, Proper, circuit, no-circuit}
 use Rattle.network.specs.Image.{BadEnds, BadFigures}
 
+-- what is checked first: no more places and circuits than a register holds
 abbrev pub count-checks : Network → List Check
 count-checks n = check 7 ((128 < n .places) ⊎ (384 < length (n .circuits))) ∷ []
 
@@ -16,10 +17,12 @@ count-checks n = check 7 ((128 < n .places) ⊎ (384 < length (n .circuits))) �
 abbrev pub circuit-checks : ℕ → Circuit → List Check
 circuit-checks places c = check 5 (BadEnds places c) ∷ check 6 (BadFigures c) ∷ []
 
+-- the same of the record of that number
 abbrev pub record-checks : Network → ℕ → List Check
 record-checks n i = circuit-checks (n .places) (circuit n i)
 
--- the load is refused with that number at that record
+-- The load is refused with that number at that record: the counts are too large, told at record 0, or the record is
+-- the first that fails a check.
 abbrev pub Refused : Network → ℕ → ℕ → Type 0
 Refused n number at = ((at ≡ 0) × First number (count-checks n)) ⊎ (Passed (count-checks n) × (at < length (n .circuits)) × First number (record-checks n at) × ((i : ℕ) → i < at → Sound (n .places) (circuit n i)))
 

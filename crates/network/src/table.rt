@@ -3,17 +3,26 @@ ghost use mathlib.Core.Path.{_≡_};
 ghost use mathlib.Core.List.{[]};
 ghost use Prim.Native.Nat.{_≤_};
 ghost use lib.ListN.{length};
-ghost use Rattle.network.specs.Network.{Proper, Sound};
 ghost use Rattle.std.specs.declared.option.Option.the-variants.{Some, None};
 ghost use Rattle.std.specs.declared.result.Result.the-variants.{Ok, Err};
 ghost use Rattle.network.specs.Checks.{First};
+ghost use Rattle.network.specs.Network.{Proper, Sound};
 ghost use Rattle.network.specs.Refusals.{number-of};
-ghost use Rattle.network.specs.Table.{Refused, ProperOrRefused, ProperNotRefused, OneTableRefusal, circuit-checks, table, GoodEnds, GoodFigures, table-proper};
+ghost use Rattle.network.specs.Table.{table, GoodEnds, GoodFigures, table-proper, circuit-checks, Refused, ProperOrRefused, ProperNotRefused, OneTableRefusal};
 use super::refusal::LoadRefusal;
 use super::refusal::Refusal;
 use super::register::Circuit;
 use super::register::Register;
 
+const MOST_PLACES: u32 = 128;
+
+const MOST_CIRCUITS: usize = 384;
+
+const MOST_BANDWIDTH: u32 = 64_000_000;
+
+const MOST_COST: u32 = 1_000_000;
+
+// A number of places, and the circuits between them, in the order of their numbers.
 #[derive(Drop)]
 pub struct TableRegister<'a> {
     places: u16,
@@ -42,7 +51,7 @@ impl<'a> TableRegister<'a> {
     pub fn load(&mut self, places: u32, circuits: &'a [Circuit]) -> Result<(), LoadRefusal>
         ensures { λ r. ⌜ elim r [ Ok _ ↦ Proper (table places (now (circuits .entry))) × (table (now (self .exit) .places) (now (now (self .exit) .circuits)) ≡ table places (now (circuits .entry))) | Err e ↦ Refused (table places (now (circuits .entry))) (number-of (e .refusal)) (e .at) × (now (self .exit) ≡ now (self .entry)) ] ⌝ }
     {
-        if places > 128 || circuits.len() > 384 {
+        if places > MOST_PLACES || circuits.len() > MOST_CIRCUITS {
             return Err(LoadRefusal {
                 refusal: Refusal::Full,
                 at: 0,
@@ -66,7 +75,7 @@ fn fault(places: u16, circuit: Circuit) -> Option<Refusal>
     if circuit.from >= places || circuit.to >= places || circuit.from == circuit.to {
         return Some(Refusal::Ends);
     }
-    if circuit.bandwidth < 1 || circuit.bandwidth > 64_000_000 || circuit.cost > 1_000_000 {
+    if circuit.bandwidth < 1 || circuit.bandwidth > MOST_BANDWIDTH || circuit.cost > MOST_COST {
         return Some(Refusal::Figure);
     }
     None
@@ -95,11 +104,6 @@ pub impl Register for TableRegister<'_> as TableRegisterRegister {
     }
 
     fn circuit(&self, number: u32) -> Option<Circuit> {
-        let at = number as usize;
-        if at < self.circuits.len() {
-            Some(self.circuits[at])
-        } else {
-            None
-        }
+        self.circuits.get(number as usize).copied()
     }
 }
