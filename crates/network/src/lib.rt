@@ -7,8 +7,16 @@ mod table;
 
 pub use image::image_stands;
 pub use refusal::LoadRefusal;
+pub use refusal::LoadRefusalDebug;
+pub use refusal::LoadRefusalDisplay;
+pub use refusal::LoadRefusalPartialEq;
 pub use refusal::Refusal;
+pub use refusal::RefusalDebug;
+pub use refusal::RefusalDisplay;
+pub use refusal::RefusalPartialEq;
 pub use register::Circuit;
+pub use register::CircuitDebug;
+pub use register::CircuitPartialEq;
 pub use register::Register;
 pub use route::main_route;
 pub use table::TableRegister;
