@@ -14,24 +14,26 @@ use Rattle.scale.specs.Measure.{Measure, AtMost, Lawful, joined, shared-cost}
 use Rattle.network.proofs.Lists.{at-each, each-drop}
 
 -- the costs are those that a register can have
-abbrev Low : Circuit → Type 0
+abbrev pub Low : Circuit → Type 0
 Low c = c .cost ≤ 1000000
 
-low : (n : Network) → Proper n → Each Low (n .circuits)
+pub low : (n : Network) → Proper n → Each Low (n .circuits)
 low n proper = at-each Low (n .circuits) no-circuit (λ c h. proper .each c h .most-cost)
 
 module _ {V : Type 0} (s : Measure V) (lawful : Lawful s) where
   pub at-most-same : (x : V) → s .value x → AtMost s x x
   at-most-same x v = ⊎-elim (λ h. h) (λ h. h) (lawful .compares x x v v)
 
+  pub join-zero : (x : V) → s .value x → s .join x (s .zero) ≡ x
+  join-zero x v = lawful .commutative x (s .zero) v (lawful .zero-value) ∙ lawful .neutral x v
+
   -- a value is at most what joining another makes of it
   pub at-most-joined : (w x : V) → s .value w → s .value x → AtMost s x (s .join w x)
   at-most-joined w x u v =
       let zero = s .zero in
       let kept : AtMost s (s .join x zero) (s .join x w) = lawful .keeps zero w x (lawful .zero-value) u v (lawful .least w u) in
-      let alone : s .join x zero ≡ x = lawful .commutative x zero v (lawful .zero-value) ∙ lawful .neutral x v in
       let turned : s .join x w ≡ s .join w x = lawful .commutative x w v u in
-      subst (λ y. AtMost s x y) turned (subst (λ y. AtMost s y (s .join x w)) alone kept)
+      subst (λ y. AtMost s x y) turned (subst (λ y. AtMost s y (s .join x w)) (join-zero x v) kept)
 
   pub joined-value : (rs : List (List ℕ)) (i : ℕ) (cs : List Circuit) → Each Low cs → s .value (joined s rs i cs)
   joined-value rs i [] p = lawful .zero-value
@@ -83,5 +85,4 @@ module _ {V : Type 0} (s : Measure V) (lawful : Lawful s) where
 
   pub cost-all : (n : Network) (rs : List (List ℕ)) (i : ℕ) (x : V) → length (n .circuits) ≤ i → So-far n rs i x → x ≡ shared-cost s n rs
   cost-all n rs i x h far =
-      let alone : s .join x (s .zero) ≡ x = lawful .commutative x (s .zero) (far .0) (lawful .zero-value) ∙ lawful .neutral x (far .0) in
-      sym alone ∙ (ap (s .join x) (sym (at-drop-all (joined s rs i) (n .circuits) i h)) ∙ far .1)
+      sym (join-zero x (far .0)) ∙ (ap (s .join x) (sym (at-drop-all (joined s rs i) (n .circuits) i h)) ∙ far .1)

@@ -2,6 +2,7 @@
 ghost use mathlib.Core.Path.{_≡_};
 ghost use Prim.Native.Nat.{_≤_};
 ghost use Rattle.scale.specs.Measure.{Measure, Lawful};
+ghost use Rattle.scale.specs.Shared.{Sharing-less-costs-no-more, Order-does-not-matter};
 ghost use Rattle.scale.specs.ThreeScales.{total as total-measure, worst as worst-measure, tally as tally-measure};
 
 // A scale has values, a zero, the weight of a cost, a joining of two values, and "at most" between two.
@@ -123,4 +124,18 @@ pub impl Scale for Tally as TallyScale {
     fn held(a: (u16, u32)) -> (u16, u32) {
         a
     }
+}
+
+// On every scale, a set that shares less costs at most as much.
+pub fn sharing_less_costs_no_more<S: Scale>() -> u8
+    ensures { λ _. ⌜ Sharing-less-costs-no-more measure ⌝ }
+{
+    0
+}
+
+// On every scale, the weights of the shared circuits give the shared cost in whatever order they are joined.
+pub fn order_of_joining_does_not_matter<S: Scale>() -> u8
+    ensures { λ _. ⌜ Order-does-not-matter measure ⌝ }
+{
+    0
 }
