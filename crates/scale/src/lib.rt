@@ -1,7 +1,7 @@
 // Scales: how the costs of shared circuits are weighed, joined and compared.
 ghost use mathlib.Core.Path.{_≡_};
-ghost use Prim.Native.Nat.{_≤_};
-ghost use Rattle.scale.specs.Measure.{Measure, Lawful};
+ghost use mathlib.Core.Bool.{cond};
+ghost use Rattle.scale.specs.Measure.{Measure, Lawful, AtMost};
 ghost use Rattle.scale.specs.Shared.{Sharing-less-costs-no-more, Order-does-not-matter};
 ghost use Rattle.scale.specs.ThreeScales.{total as total-measure, worst as worst-measure, tally as tally-measure};
 
@@ -9,31 +9,35 @@ ghost use Rattle.scale.specs.ThreeScales.{total as total-measure, worst as wor
 pub trait Scale {
     type Value: Copy;
 
-    // What the functions below mean.
+    // What the functions below mean, in the words of the laws.
     ghost measure: { Measure Self·Value };
 
     // Every scale shows that it keeps the laws.
     law lawful: { Lawful measure };
 
+    // What a set that shares nothing costs.
     fn zero() -> Self::Value
         ensures { λ r. ⌜ r ≡ measure .zero ⌝ };
 
+    // The value of one circuit, by its failure cost.
     fn weight(cost: u32) -> Self::Value
         ensures { λ r. ⌜ r ≡ measure .weight cost ⌝ };
 
+    // Two values put together.
     fn join(a: Self::Value, b: Self::Value) -> Self::Value
         ensures { λ r. ⌜ r ≡ measure .join a b ⌝ };
 
+    // Whether the first value is at most the second.
     fn at_most(a: Self::Value, b: Self::Value) -> bool
         ensures { λ r. ⌜ r ≡ measure .atMost a b ⌝ };
 
-    // Does nothing: what generic code was handed is a value of the scale.
+    // Gives back what it was handed. The laws speak of a scale's values, and by this call generic code learns that what it holds is one.
     fn held(a: Self::Value) -> Self::Value
         ensures same { λ r. ⌜ r ≡ a ⌝ }
         ensures value { λ r. ⌜ measure .value a ⌝ };
 }
 
-// Weights are costs, and joining adds, up to the largest number of 32 bits.
+// The total of the costs. Weights are costs, and joining adds, up to the largest number of 32 bits.
 #[derive(Clone, Copy)]
 pub struct Total;
 
@@ -63,7 +67,7 @@ pub impl Scale for Total as TotalScale {
     }
 }
 
-// Weights are costs, and joining takes the larger.
+// The worst of the costs. Weights are costs, and joining takes the larger.
 #[derive(Clone, Copy)]
 pub struct Worst;
 
@@ -93,7 +97,7 @@ pub impl Scale for Worst as WorstScale {
     }
 }
 
-// The number of circuits and their total cost. Numbers are compared first.
+// The number of circuits and their total cost. Numbers are compared first. A number past 65,535 stops both at their largest.
 #[derive(Clone, Copy)]
 pub struct Tally;
 
@@ -124,6 +128,16 @@ pub impl Scale for Tally as TallyScale {
     fn held(a: (u16, u32)) -> (u16, u32) {
         a
     }
+}
+
+// The lesser of two values, the first where each is at most the other. By the laws it is at most both.
+pub fn lesser<S: Scale>(a: S::Value, b: S::Value) -> S::Value
+    ensures which { λ r. ⌜ r ≡ cond (measure .atMost a b) a b ⌝ }
+    ensures least { λ r. ⌜ AtMost measure r a × AtMost measure r b ⌝ }
+{
+    let a = S::held(a);
+    let b = S::held(b);
+    if S::at_most(a, b) { a } else { b }
 }
 
 // On every scale, a set that shares less costs at most as much.
