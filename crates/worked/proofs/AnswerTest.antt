@@ -39,6 +39,10 @@ free? n l m rate rs c = (open? l c && leb rate (left n l c)) && rule? m rate (ti
 abbrev pub carries? : Network → Ledger → Mode → ℕ → List (List ℕ) → Bool
 carries? n l m rate rs = every (every (free? n l m rate rs)) rs
 
+-- the routes are a set that can carry the rate
+abbrev pub choice? : Network → Ledger → ℕ → ℕ → Mode → ℕ → List (List ℕ) → Bool
+choice? n l a b m rate rs = leb 2 (length rs) && (every (route? n a b) rs && carries? n l m rate rs)
+
 module _ (n : Network) (l : Ledger) (a b : ℕ) where
   -- some two routes can carry the rate, and pass the test
   abbrev pub pair? : Mode → ℕ → (List (List ℕ) → Bool) → Bool

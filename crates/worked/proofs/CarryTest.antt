@@ -8,7 +8,7 @@ use native.Mathlib.Omega.{arith}
 use lib.ListN.{length, getD}
 use lib.Dec.{eqb, leb, ltb}
 use Rattle.std.specs.Orderings.{Decides}
-use Rattle.std.proofs.shelf.Tests.{and-parts, and-from, false≢true, or-cases, or-left, or-right, not-true, not-from-false, eqb-true, eq-eqb, ne-eqb, eqb-false, ltb-true, leb-true, le-leb}
+use Rattle.std.proofs.shelf.Tests.{and-parts, and-from, false≢true, or-cases, or-left, or-right, not-true, not-from-false, eqb-true, eq-eqb, ne-eqb, eqb-false, lt-ltb, ltb-true, leb-true, le-leb}
 use Rattle.network.specs.Network.{Network, circuit, Proper}
 use Rattle.network.specs.Routes.{uses, Distinct, Leads, stops, Route, times}
 use Rattle.promise.specs.declared.Mode.{Mode}
@@ -16,11 +16,11 @@ use Rattle.promise.specs.declared.Mode.the-variants.{OnePlusOne, OneToOne}
 use Rattle.promise.specs.Ledger.{Notice, Ledger, left, Open, Usable, Rule, Carries, Choice}
 use Rattle.network.proofs.Counts.{times-some, some-times}
 use Rattle.promise.proofs.Carrying.{first-of-two}
-use Rattle.worked.proofs.AnswerTest.{distinct?, leads?, route?, rule?, open?, free?, carries?, pair?, usable}
+use Rattle.worked.proofs.AnswerTest.{distinct?, leads?, route?, rule?, open?, free?, carries?, choice?, pair?, usable}
 use Rattle.network.proofs.Lists.{every, some, In, each-in, every-each, each-every, every-in, in-every, some-in, in-some, in-kept}
 use Rattle.worked.proofs.AllRoutes.{routes, routes-has, routes-only}
 
--- the test of a route
+-- the tests of a route
 distinct-sound : (xs : List ℕ) → distinct? xs ≡ true → Distinct xs
 distinct-sound [] h = tt
 distinct-sound (x ∷ xs) h = let p = and-parts (not (uses x xs)) (distinct? xs) h in (not-true (uses x xs) (p .0), distinct-sound xs (p .1))
@@ -37,6 +37,21 @@ route-sound n a b cs h =
     let p = and-parts (ltb 0 (length cs)) (leads? n a cs b && distinct? (a ∷ stops n cs)) h in
     let q = and-parts (leads? n a cs b) (distinct? (a ∷ stops n cs)) (p .1) in
     (ltb-true 0 (length cs) (p .0), leads-sound n a cs b (q .0), distinct-sound (a ∷ stops n cs) (q .1))
+
+distinct-complete : (xs : List ℕ) → Distinct xs → distinct? xs ≡ true
+distinct-complete [] h = refl
+distinct-complete (x ∷ xs) h = and-from (not (uses x xs)) (distinct? xs) (not-from-false (uses x xs) (h .0)) (distinct-complete xs (h .1))
+
+pub leads-complete : (n : Network) (a : ℕ) (cs : List ℕ) (b : ℕ) → Leads n a cs b → leads? n a cs b ≡ true
+leads-complete n a [] b h = eq-eqb a b h
+leads-complete n a (c ∷ cs) b h =
+    and-from (ltb c (length (n .circuits))) (eqb (circuit n c .from) a && leads? n (circuit n c .to) cs b) (lt-ltb c (length (n .circuits)) (h .0))
+    (and-from (eqb (circuit n c .from) a) (leads? n (circuit n c .to) cs b) (eq-eqb (circuit n c .from) a (h .1)) (leads-complete n (circuit n c .to) cs b (h .2)))
+
+pub route-complete : (n : Network) (a b : ℕ) (cs : List ℕ) → Route n a b cs → route? n a b cs ≡ true
+route-complete n a b cs h =
+    and-from (ltb 0 (length cs)) (leads? n a cs b && distinct? (a ∷ stops n cs)) (lt-ltb 0 (length cs) (h .0))
+    (and-from (leads? n a cs b) (distinct? (a ∷ stops n cs)) (leads-complete n a cs b (h .1)) (distinct-complete (a ∷ stops n cs) (h .2)))
 
 open-sound : (l : Ledger) (c : ℕ) → open? l c ≡ true → Open l c
 open-sound l c h = every-each (λ (x : Notice). not (eqb (x .circuit) c)) (λ (x : Notice). x .circuit ≡ c → ⊥) (λ x e. eqb-false (x .circuit) c (not-true (eqb (x .circuit) c) e)) (l .notices) h
@@ -90,6 +105,18 @@ module _ (n : Network) (l : Ledger) where
   pub carries-complete : (m : Mode) (rate : ℕ) (rs : List (List ℕ)) → Carries n l m rate rs → carries? n l m rate rs ≡ true
   carries-complete m rate rs h =
       in-every (every (free? n l m rate rs)) rs (λ r i. used-every (free? n l m rate rs) r (λ c u. free-complete m rate rs c (h c (times-some c rs r i u))))
+
+  -- the test of a set that can carry the rate
+  pub choice-sound : (a b : ℕ) (m : Mode) (rate : ℕ) (rs : List (List ℕ)) → choice? n l a b m rate rs ≡ true → Choice n l a b m rate rs
+  choice-sound a b m rate rs h =
+      let p = and-parts (leb 2 (length rs)) (every (route? n a b) rs && carries? n l m rate rs) h in
+      let q = and-parts (every (route? n a b) rs) (carries? n l m rate rs) (p .1) in
+      ((leb-true 2 (length rs) (p .0), every-each (route? n a b) (Route n a b) (λ x. route-sound n a b x) rs (q .0)), carries-sound m rate rs (q .1))
+
+  pub choice-complete : (a b : ℕ) (m : Mode) (rate : ℕ) (rs : List (List ℕ)) → Choice n l a b m rate rs → choice? n l a b m rate rs ≡ true
+  choice-complete a b m rate rs h =
+      and-from (leb 2 (length rs)) (every (route? n a b) rs && carries? n l m rate rs) (le-leb 2 (length rs) (h .0 .0))
+      (and-from (every (route? n a b) rs) (carries? n l m rate rs) (each-every (route? n a b) (Route n a b) (λ x. route-complete n a b x) rs (h .0 .1)) (carries-complete m rate rs (h .1)))
 
   module _ (a b : ℕ) where
     pub pair-sound : (m : Mode) (rate : ℕ) (p : List (List ℕ) → Bool) → pair? n l a b m rate p ≡ true → (rs : List (List ℕ)) × Choice n l a b m rate rs × (p rs ≡ true)

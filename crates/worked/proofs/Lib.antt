@@ -2,6 +2,8 @@ pub mod AllRoutes
 pub mod AnswerTest
 pub mod AnswerTestSound
 pub mod CarryTest
+pub mod LedgerTest
+pub mod LineTests
 pub mod NetworkTest
 pub mod OneAnswer
 pub mod WorkedLines

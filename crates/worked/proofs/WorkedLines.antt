@@ -1,23 +1,23 @@
--- The worked lines, all by one computation. Assumes nothing.
+-- The worked lines and the further ones, all by one computation. Assumes nothing.
 use mathlib.Core.Path.{_≡_, refl}
 use mathlib.Core.List.{List, [], _∷_}
 use mathlib.Core.Bool.{Bool, true, false, _&&_}
-use Prim.Native.Nat.{ℕ}
+use Prim.Native.Nat.{ℕ, _≤_}
 use native.Mathlib.Omega.{arith}
 use lib.Dec.{eqb, leb}
-use Rattle.std.proofs.shelf.Tests.{and-parts, both-ways, eqb-true, leb-true}
-use Rattle.network.specs.Network.{Network, Proper}
+use Rattle.std.proofs.shelf.Tests.{and-parts, and-from, both-ways, eqb-true, leb-true, le-leb}
+use Rattle.network.specs.Network.{Network}
 use Rattle.scale.specs.Measure.{Measure}
 use Rattle.scale.specs.ThreeScales.{total, worst, tally, most}
-use Rattle.promise.specs.declared.Mode.the-variants.{OnePlusOne, OneToOne}
-use Rattle.promise.specs.Ledger.{Ledger, nothing-yet}
-use Rattle.promise.specs.Promise.{Plan, safest, widest, book, plan, Answer, refused, pair, Right, after}
-use Rattle.worked.specs.Worked.{Line, Lines, Worked-lines, Only-these, worked, feed-7, upper, lower, across, Further-lines, total-lines, worst-lines, tally-lines, further-lines}
+use Rattle.promise.specs.Ledger.{nothing-yet}
+use Rattle.worked.specs.Lines.{All, Line, Lines, Only, Leads-to}
+use Rattle.worked.specs.Worked.{worked, feed-7, total-lines, worst-lines, tally-lines, Worked-lines, Only-these}
+use Rattle.worked.specs.Further.{single, wide, ring, feed-9, further-lines, worst-further, tally-further, single-1-lines, single-7-lines, wide-lines, ring-lines, ring-wrong, Further-lines, worked-routes, worked-no-routes, worked-no-way, ring-routes, ring-no-routes, worked-choices, worked-no-choices, total-shares, worst-shares, tally-shares, Route-lines, total-figures, worst-figures, tally-figures, Scale-lines, first-run, second-run, third-run, fourth-run, wrong-first, wrong-later, wrong-after, steps, Run-lines}
 use Rattle.scale.proofs.ThreeScalesLawful.{pairs, total-lawful, worst-lawful, tally-lawful}
-use Rattle.worked.proofs.AnswerTest.{Told-by, right?}
-use Rattle.worked.proofs.AnswerTestSound.{Told-right, right-sound}
-use Rattle.worked.proofs.OneAnswer.{agree, only}
+use Rattle.worked.proofs.AnswerTest.{Told-by}
+use Rattle.worked.proofs.AnswerTestSound.{Told-right}
 use Rattle.worked.proofs.NetworkTest.{proper?, proper-sound}
+use Rattle.worked.proofs.LineTests.{lines?, lines-right, lines-only, runs?, run-kept, run-leads, wrong?, wrong-sound, routes?, no-routes?, no-way?, choices?, no-choices?, routes-sound, no-routes-sound, no-way-sound, choices-sound, no-choices-sound, steps?, steps-sound, figures?, figures-sound, shares?, shares-sound}
 
 abbrev number : Told-by ℕ
 number = record { value? = λ x. leb x most; same? = eqb }
@@ -25,123 +25,173 @@ number = record { value? = λ x. leb x most; same? = eqb }
 abbrev numbers : Told-by (ℕ × ℕ)
 numbers = record { value? = λ x. leb (x .0) 65535 && leb (x .1) most; same? = λ x y. eqb (x .0) (y .0) && eqb (x .1) (y .1) }
 
-abbrev pub lines? : {V : Type 0} → Told-by V → Measure V → Network → List (Line V) → Bool
-lines? d s n [] = true
-lines? d s n (x ∷ xs) = right? d s n (x .ledger) (x .call) (x .answer) && lines? d s n xs
+-- every test passes
+abbrev together : List Bool → Bool
+together [] = true
+together (x ∷ xs) = x && together xs
 
-pub lines-sound : {V : Type 0} (d : Told-by V) (s : Measure V) (n : Network) → Told-right d s n → (xs : List (Line V)) → lines? d s n xs ≡ true → Lines s n xs
-lines-sound d s n g [] h = tt
-lines-sound d s n g (x ∷ xs) h =
-    let p = and-parts (right? d s n (x .ledger) (x .call) (x .answer)) (lines? d s n xs) h in
-    (right-sound d s n g (x .ledger) (x .call) (x .answer) (p .0), lines-sound d s n g xs (p .1))
+abbrev pub proper-tests : List Bool
+proper-tests = proper? worked ∷ proper? (single 1) ∷ proper? (single 7) ∷ proper? wide ∷ proper? ring ∷ []
 
--- the computation: the network is proper, and every line passes
-abbrev all-lines : Bool
-all-lines = lines? number total worked total-lines && (lines? number worst worked worst-lines && (lines? numbers tally worked tally-lines && lines? number total worked further-lines))
+abbrev pub worked-tests : List Bool
+worked-tests = lines? number total worked total-lines ∷ lines? number worst worked worst-lines ∷ lines? numbers tally worked tally-lines ∷ []
 
-pub all-right : (proper? worked && all-lines) ≡ true
+abbrev pub further-tests : List Bool
+further-tests =
+    lines? number total worked further-lines
+    ∷ lines? number worst worked worst-further
+    ∷ lines? numbers tally worked tally-further
+    ∷ lines? number total (single 1) single-1-lines
+    ∷ lines? number total (single 7) single-7-lines
+    ∷ lines? number total wide wide-lines
+    ∷ lines? number total ring ring-lines
+    ∷ wrong? number total ring ring-wrong
+    ∷ []
+
+abbrev pub route-tests : List Bool
+route-tests =
+    routes? worked worked-routes
+    ∷ no-routes? worked worked-no-routes
+    ∷ no-way? worked worked-no-way
+    ∷ routes? ring ring-routes
+    ∷ no-routes? ring ring-no-routes
+    ∷ choices? worked worked-choices
+    ∷ no-choices? worked worked-no-choices
+    ∷ shares? number total worked total-shares
+    ∷ shares? number worst worked worst-shares
+    ∷ shares? numbers tally worked tally-shares
+    ∷ []
+
+abbrev pub scale-tests : List Bool
+scale-tests = figures? number total total-figures ∷ figures? number worst worst-figures ∷ figures? numbers tally tally-figures ∷ []
+
+abbrev pub run-tests : List Bool
+run-tests =
+    runs? number total worked nothing-yet first-run feed-7
+    ∷ runs? number total worked feed-7 second-run feed-7
+    ∷ runs? number total worked feed-7 third-run feed-9
+    ∷ runs? number total worked feed-9 fourth-run nothing-yet
+    ∷ steps? steps
+    ∷ []
+
+-- the computation
+abbrev groups : List Bool
+groups = together proper-tests ∷ together worked-tests ∷ together further-tests ∷ together route-tests ∷ together scale-tests ∷ together run-tests ∷ []
+
+pub all-right : together groups ≡ true
 all-right = refl
 
-worked-proper : Proper worked
-worked-proper = proper-sound worked (and-parts (proper? worked) all-lines all-right .0)
+-- what it tells of each test
+each-passes : (xs : List Bool) → together xs ≡ true → All (λ x. x ≡ true) xs
+each-passes [] h = tt
+each-passes (x ∷ xs) h = let p = and-parts x (together xs) h in (p .0, each-passes xs (p .1))
 
-total-told : Told-right number total worked
-total-told = record { lawful = total-lawful; proper = worked-proper; value = λ x h. leb-true x most h; same = eqb-true }
+passes : All (λ x. x ≡ true) groups
+passes = each-passes groups all-right
 
-worst-told : Told-right number worst worked
-worst-told = record { lawful = worst-lawful; proper = worked-proper; value = λ x h. leb-true x most h; same = eqb-true }
+proper-pass : All (λ x. x ≡ true) proper-tests
+proper-pass = each-passes proper-tests (passes .0)
 
-tally-told : Told-right numbers tally worked
-tally-told = record {
-  lawful = tally-lawful;
-  proper = worked-proper;
-  value = λ x h. let p = and-parts (leb (x .0) 65535) (leb (x .1) most) h in (leb-true (x .0) 65535 (p .0), leb-true (x .1) most (p .1));
-  same = λ x y h. let p = and-parts (eqb (x .0) (y .0)) (eqb (x .1) (y .1)) h in pairs x y (eqb-true (x .0) (y .0) (p .0)) (eqb-true (x .1) (y .1) (p .1));
-}
+worked-pass : All (λ x. x ≡ true) worked-tests
+worked-pass = each-passes worked-tests (passes .1 .0)
 
--- every line is right
-all-parts : Worked-lines × Further-lines
-all-parts =
-    let t = lines? number total worked total-lines in let w = lines? number worst worked worst-lines in
-    let y = lines? numbers tally worked tally-lines in let f = lines? number total worked further-lines in
-    let o = and-parts (proper? worked) all-lines all-right in
-    let p = and-parts t (w && (y && f)) (o .1) in
-    let q = and-parts w (y && f) (p .1) in
-    let r = and-parts y f (q .1) in
-    ((lines-sound number total worked total-told total-lines (p .0), lines-sound number worst worked worst-told worst-lines (q .0), lines-sound numbers tally worked tally-told tally-lines (r .0)), lines-sound number total worked total-told further-lines (r .1))
+further-pass : All (λ x. x ≡ true) further-tests
+further-pass = each-passes further-tests (passes .1 .1 .0)
+
+route-pass : All (λ x. x ≡ true) route-tests
+route-pass = each-passes route-tests (passes .1 .1 .1 .0)
+
+scale-pass : All (λ x. x ≡ true) scale-tests
+scale-pass = each-passes scale-tests (passes .1 .1 .1 .1 .0)
+
+run-pass : All (λ x. x ≡ true) run-tests
+run-pass = each-passes run-tests (passes .1 .1 .1 .1 .1 .0)
+
+-- what the tests rest on
+number-value : (x : ℕ) → leb x most ≡ true → x ≤ most
+number-value x h = leb-true x most h
+
+numbers-value : (x : ℕ × ℕ) → numbers .value? x ≡ true → tally .value x
+numbers-value x h = let p = and-parts (leb (x .0) 65535) (leb (x .1) most) h in (leb-true (x .0) 65535 (p .0), leb-true (x .1) most (p .1))
+
+numbers-valued : (x : ℕ × ℕ) → tally .value x → numbers .value? x ≡ true
+numbers-valued x h = and-from (leb (x .0) 65535) (leb (x .1) most) (le-leb (x .0) 65535 (h .0)) (le-leb (x .1) most (h .1))
+
+numbers-same : (x y : ℕ × ℕ) → numbers .same? x y ≡ true → x ≡ y
+numbers-same x y h = let p = and-parts (eqb (x .0) (y .0)) (eqb (x .1) (y .1)) h in pairs x y (eqb-true (x .0) (y .0) (p .0)) (eqb-true (x .1) (y .1) (p .1))
+
+total-told : (n : Network) → proper? n ≡ true → Told-right number total n
+total-told n h = record { lawful = total-lawful; proper = proper-sound n h; value = number-value; same = eqb-true }
+
+worst-told : (n : Network) → proper? n ≡ true → Told-right number worst n
+worst-told n h = record { lawful = worst-lawful; proper = proper-sound n h; value = number-value; same = eqb-true }
+
+tally-told : (n : Network) → proper? n ≡ true → Told-right numbers tally n
+tally-told n h = record { lawful = tally-lawful; proper = proper-sound n h; value = numbers-value; same = numbers-same }
+
+by-total : Told-right number total worked
+by-total = total-told worked (proper-pass .0)
+
+by-worst : Told-right number worst worked
+by-worst = worst-told worked (proper-pass .0)
+
+by-tally : Told-right numbers tally worked
+by-tally = tally-told worked (proper-pass .0)
 
 pub worked-lines : Worked-lines
-worked-lines = all-parts .0
+worked-lines = (lines-right number total worked by-total total-lines (worked-pass .0), lines-right number worst worked by-worst worst-lines (worked-pass .1 .0), lines-right numbers tally worked by-tally tally-lines (worked-pass .1 .1 .0))
 
-pub further-right : Further-lines
-further-right = all-parts .1
-
--- and no other answer is
 pub only-these : Only-these
-only-these = (only total worked total-lines (search) (worked-lines .0), only worst worked worst-lines (tt, tt) (worked-lines .1), only tally worked tally-lines (tt, tt) (worked-lines .2))
+only-these = (lines-only number total worked by-total total-lines (worked-pass .0), lines-only number worst worked by-worst worst-lines (worked-pass .1 .0), lines-only numbers tally worked by-tally tally-lines (worked-pass .1 .1 .0))
 
--- one of them, as a line by itself
-pub at-25000 : Right total worked nothing-yet (plan (safest 0 3 25000 OnePlusOne) 127 127) (pair 25000 lower across 4)
-at-25000 = worked-lines .0 .1 .1 .0
+hold : {V : Type 0} (d : Told-by V) (s : Measure V) (n : Network) → Told-right d s n → (xs : List (Line V)) → lines? d s n xs ≡ true → Lines s n xs × Only s n xs
+hold d s n g xs h = (lines-right d s n g xs h, lines-only d s n g xs h)
 
--- the test says no
-abbrev asked : Ledger → Plan ℕ → Answer ℕ → Bool
-asked l x answer = right? number total worked l (plan x 127 127) answer
+pub further : Further-lines
+further = record {
+  by-total = hold number total worked by-total further-lines (further-pass .0);
+  by-worst = hold number worst worked by-worst worst-further (further-pass .1 .0);
+  by-tally = hold numbers tally worked by-tally tally-further (further-pass .1 .1 .0);
+  at-single-1 = hold number total (single 1) (total-told (single 1) (proper-pass .1 .0)) single-1-lines (further-pass .1 .1 .1 .0);
+  at-single-7 = hold number total (single 7) (total-told (single 7) (proper-pass .1 .1 .0)) single-7-lines (further-pass .1 .1 .1 .1 .0);
+  at-wide = hold number total wide (total-told wide (proper-pass .1 .1 .1 .0)) wide-lines (further-pass .1 .1 .1 .1 .1 .0);
+  at-ring = hold number total ring (total-told ring (proper-pass .1 .1 .1 .1 .0)) ring-lines (further-pass .1 .1 .1 .1 .1 .1 .0);
+  wrong-at-ring = wrong-sound number total ring ring-wrong (further-pass .1 .1 .1 .1 .1 .1 .1 .0);
+}
 
--- a cost of 3 for 4
-no-cost-3 : asked nothing-yet (safest 0 3 25000 OnePlusOne) (pair 25000 lower across 3) ≡ false
-no-cost-3 = refl
+pub routes-and-sets : Route-lines
+routes-and-sets = record {
+  routes = routes-sound worked worked-routes (route-pass .0);
+  no-routes = no-routes-sound worked worked-no-routes (route-pass .1 .0);
+  no-way = no-way-sound worked worked-no-way (route-pass .1 .1 .0);
+  on-ring = routes-sound ring ring-routes (route-pass .1 .1 .1 .0);
+  not-on-ring = no-routes-sound ring ring-no-routes (route-pass .1 .1 .1 .1 .0);
+  choices = choices-sound worked worked-choices (route-pass .1 .1 .1 .1 .1 .0);
+  no-choices = no-choices-sound worked worked-no-choices (route-pass .1 .1 .1 .1 .1 .1 .0);
+  by-total = shares-sound number total eqb-true worked total-shares (route-pass .1 .1 .1 .1 .1 .1 .1 .0);
+  by-worst = shares-sound number worst eqb-true worked worst-shares (route-pass .1 .1 .1 .1 .1 .1 .1 .1 .0);
+  by-tally = shares-sound numbers tally numbers-same worked tally-shares (route-pass .1 .1 .1 .1 .1 .1 .1 .1 .1 .0);
+}
 
--- a pair that shares more than another
-no-dearer : asked nothing-yet (safest 0 3 20000 OneToOne) (pair 20000 lower across 4) ≡ false
-no-dearer = refl
+pub scales : Scale-lines
+scales = record {
+  by-total = figures-sound number total number-value (λ x h. le-leb x most h) eqb-true total-figures (scale-pass .0);
+  by-worst = figures-sound number worst number-value (λ x h. le-leb x most h) eqb-true worst-figures (scale-pass .1 .0);
+  by-tally = figures-sound numbers tally numbers-value numbers-valued numbers-same tally-figures (scale-pass .1 .1 .0);
+}
 
--- a rate one too large, one too small
-no-rate-25001 : asked nothing-yet (widest 0 3 OneToOne 4) (pair 25001 lower across 4) ≡ false
-no-rate-25001 = refl
+first-kept : Leads-to total worked nothing-yet first-run feed-7
+first-kept = run-leads number total worked by-total nothing-yet first-run feed-7 (run-pass .0)
 
-no-rate-24999 : asked nothing-yet (widest 0 3 OneToOne 4) (pair 24999 lower across 4) ≡ false
-no-rate-24999 = refl
-
--- the upper route twice, at its shared cost of 5
-no-upper-twice : asked nothing-yet (safest 0 3 20000 OneToOne) (pair 20000 upper upper 5) ≡ false
-no-upper-twice = refl
-
--- a refusal where a pair stands, the wrong refusal, and a pair where none stands
-no-refusal : asked nothing-yet (safest 0 3 25000 OnePlusOne) (refused 16) ≡ false
-no-refusal = refl
-
-no-16 : asked feed-7 (widest 0 3 OneToOne 0) (refused 16) ≡ false
-no-16 = refl
-
-no-pair-25001 : asked nothing-yet (safest 0 3 25001 OnePlusOne) (pair 25001 lower lower 9) ≡ false
-no-pair-25001 = refl
-
--- lists too short
-no-room : right? number total worked nothing-yet (plan (safest 0 3 20000 OneToOne) 126 127) (pair 20000 upper lower 0) ≡ false
-no-room = refl
-
-room-15 : right? number total worked nothing-yet (plan (safest 0 3 20000 OneToOne) 126 127) (refused 15) ≡ true
-room-15 = refl
-
--- the definitions say no too: a right answer at that call agrees with the worked one, so none has these figures
-wrong-cost : (f g : List ℕ) → Right total worked nothing-yet (plan (safest 0 3 25000 OnePlusOne) 127 127) (pair 25000 f g 3) → ⊥
-wrong-cost f g h = let x = agree total worked nothing-yet (safest 0 3 25000 OnePlusOne) 127 127 (pair 25000 lower across 4) (pair 25000 f g 3) at-25000 h in both-ways false refl (x .1)
-
-wrong-rate : (f g : List ℕ) (c : ℕ) → Right total worked nothing-yet (plan (widest 0 3 OneToOne 4) 127 127) (pair 25001 f g c) → ⊥
-wrong-rate f g c h =
-    let x = agree total worked nothing-yet (widest 0 3 OneToOne 4) 127 127 (pair 25000 lower across 4) (pair 25001 f g c) (worked-lines .0 .1 .1 .1 .1 .1 .1 .1 .0) h in
-    let e : _≡_ {A = ℕ} 25000 25001 = x .0 in omega arith
-
-upper-twice : (c : ℕ) → Right total worked nothing-yet (plan (safest 0 3 20000 OneToOne) 127 127) (pair 20000 upper upper c) → ⊥
-upper-twice c h =
-    let x = agree total worked nothing-yet (safest 0 3 20000 OneToOne) 127 127 (pair 20000 upper lower 0) (pair 20000 upper upper c) (worked-lines .0 .0) h in
-    let e : c ≡ 5 = h .1 .1 .shares in
-    omega (arith, leb-true c 0 (x .2))
-
--- the ledger with feed 7 is what booking it leaves, and the booking is right
-booked : after {V = ℕ} nothing-yet (plan (book 7 0 3 20000 OneToOne 0) 127 127) (pair 20000 upper lower 0) ≡ feed-7
-booked = refl
-
-booking : Right total worked nothing-yet (plan (book 7 0 3 20000 OneToOne 0) 127 127) (pair 20000 upper lower 0)
-booking = further-right .1 .1 .1 .0
+pub runs : Run-lines
+runs = record {
+  booked = first-kept .0;
+  first = first-kept;
+  second = run-leads number total worked by-total feed-7 second-run feed-7 (run-pass .1 .0);
+  third = run-leads number total worked by-total feed-7 third-run feed-9 (run-pass .1 .1 .0);
+  fourth = run-leads number total worked by-total feed-9 fourth-run nothing-yet (run-pass .1 .1 .1 .0);
+  not-first = λ h. let e : _≡_ {A = ℕ} 39999 40000 = h .0 .1 in omega arith;
+  not-later = λ h. let e : _≡_ {A = ℕ} 29999 30000 = h .1 .0 .1 in omega arith;
+  not-after = λ h. let e : _≡_ {A = ℕ} 60000 40000 = h .1 .0 .1 in omega arith;
+  changes = steps-sound steps (run-pass .1 .1 .1 .1 .0);
+}

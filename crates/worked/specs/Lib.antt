@@ -1,1 +1,3 @@
+pub mod Further
+pub mod Lines
 pub mod Worked

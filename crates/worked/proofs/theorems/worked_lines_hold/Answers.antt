@@ -1,4 +1,4 @@
-use Rattle.worked.proofs.worked_lines_hold.Needs as need
+use Rattle.worked.proofs.theorems.worked_lines_hold.Needs as need
 use Rattle.worked.proofs.WorkedLines.{worked-lines}
 
 pub returns : need.returns
