@@ -2,7 +2,7 @@
 use mathlib.Core.Path.{_≡_, refl}
 use mathlib.Core.List.{List, [], _∷_}
 use mathlib.Core.Bool.{Bool, true, false, _&&_}
-use Prim.Native.Nat.{ℕ, _≤_}
+use Prim.Native.Nat.{ℕ, zero, suc, _≤_}
 use native.Mathlib.Omega.{arith}
 use lib.Dec.{eqb, leb}
 use Rattle.std.proofs.shelf.Tests.{and-parts, and-from, both-ways, eqb-true, leb-true, le-leb}
@@ -10,14 +10,14 @@ use Rattle.network.specs.Network.{Network}
 use Rattle.scale.specs.Measure.{Measure}
 use Rattle.scale.specs.ThreeScales.{total, worst, tally, most}
 use Rattle.promise.specs.Ledger.{nothing-yet}
-use Rattle.worked.specs.Lines.{All, Line, Lines, Only, Leads-to}
+use Rattle.worked.specs.Lines.{Line, Lines, Only, Leads-to}
 use Rattle.worked.specs.Worked.{worked, feed-7, total-lines, worst-lines, tally-lines, Worked-lines, Only-these}
 use Rattle.worked.specs.Further.{single, wide, ring, feed-9, further-lines, worst-further, tally-further, single-1-lines, single-7-lines, wide-lines, ring-lines, ring-wrong, Further-lines, worked-routes, worked-no-routes, worked-no-way, ring-routes, ring-no-routes, worked-choices, worked-no-choices, total-shares, worst-shares, tally-shares, Route-lines, total-figures, worst-figures, tally-figures, Scale-lines, first-run, second-run, third-run, fourth-run, wrong-first, wrong-later, wrong-after, steps, Run-lines}
 use Rattle.scale.proofs.ThreeScalesLawful.{pairs, total-lawful, worst-lawful, tally-lawful}
 use Rattle.worked.proofs.AnswerTest.{Told-by}
 use Rattle.worked.proofs.AnswerTestSound.{Told-right}
 use Rattle.worked.proofs.NetworkTest.{proper?, proper-sound}
-use Rattle.worked.proofs.LineTests.{lines?, lines-right, lines-only, runs?, run-kept, run-leads, wrong?, wrong-sound, routes?, no-routes?, no-way?, choices?, no-choices?, routes-sound, no-routes-sound, no-way-sound, choices-sound, no-choices-sound, steps?, steps-sound, figures?, figures-sound, shares?, shares-sound}
+use Rattle.worked.proofs.LineTests.{lines?, lines-right, lines-only, runs?, run-leads, wrong?, wrong-sound, routes?, no-routes?, no-way?, choices?, no-choices?, routes-sound, no-routes-sound, no-way-sound, choices-sound, no-choices-sound, steps?, steps-sound, figures?, figures-sound, shares?, shares-sound}
 
 abbrev number : Told-by ℕ
 number = record { value? = λ x. leb x most; same? = eqb }
@@ -30,13 +30,13 @@ abbrev together : List Bool → Bool
 together [] = true
 together (x ∷ xs) = x && together xs
 
-abbrev pub proper-tests : List Bool
+abbrev proper-tests : List Bool
 proper-tests = proper? worked ∷ proper? (single 1) ∷ proper? (single 7) ∷ proper? wide ∷ proper? ring ∷ []
 
-abbrev pub worked-tests : List Bool
+abbrev worked-tests : List Bool
 worked-tests = lines? number total worked total-lines ∷ lines? number worst worked worst-lines ∷ lines? numbers tally worked tally-lines ∷ []
 
-abbrev pub further-tests : List Bool
+abbrev further-tests : List Bool
 further-tests =
     lines? number total worked further-lines
     ∷ lines? number worst worked worst-further
@@ -48,7 +48,7 @@ further-tests =
     ∷ wrong? number total ring ring-wrong
     ∷ []
 
-abbrev pub route-tests : List Bool
+abbrev route-tests : List Bool
 route-tests =
     routes? worked worked-routes
     ∷ no-routes? worked worked-no-routes
@@ -62,10 +62,10 @@ route-tests =
     ∷ shares? numbers tally worked tally-shares
     ∷ []
 
-abbrev pub scale-tests : List Bool
+abbrev scale-tests : List Bool
 scale-tests = figures? number total total-figures ∷ figures? number worst worst-figures ∷ figures? numbers tally tally-figures ∷ []
 
-abbrev pub run-tests : List Bool
+abbrev run-tests : List Bool
 run-tests =
     runs? number total worked nothing-yet first-run feed-7
     ∷ runs? number total worked feed-7 second-run feed-7
@@ -81,31 +81,34 @@ groups = together proper-tests ∷ together worked-tests ∷ together further-te
 pub all-right : together groups ≡ true
 all-right = refl
 
--- what it tells of each test
-each-passes : (xs : List Bool) → together xs ≡ true → All (λ x. x ≡ true) xs
-each-passes [] h = tt
-each-passes (x ∷ xs) h = let p = and-parts x (together xs) h in (p .0, each-passes xs (p .1))
+-- what it tells of each test, by its place
+abbrev at : List Bool → ℕ → Bool
+at [] i = true
+at (x ∷ xs) zero = x
+at (x ∷ xs) (suc i) = at xs i
 
-passes : All (λ x. x ≡ true) groups
-passes = each-passes groups all-right
+passes : (xs : List Bool) → together xs ≡ true → (i : ℕ) → at xs i ≡ true
+passes [] h i = refl
+passes (x ∷ xs) h zero = and-parts x (together xs) h .0
+passes (x ∷ xs) h (suc i) = passes xs (and-parts x (together xs) h .1) i
 
-proper-pass : All (λ x. x ≡ true) proper-tests
-proper-pass = each-passes proper-tests (passes .0)
+proper-pass : (i : ℕ) → at proper-tests i ≡ true
+proper-pass = passes proper-tests (passes groups all-right 0)
 
-worked-pass : All (λ x. x ≡ true) worked-tests
-worked-pass = each-passes worked-tests (passes .1 .0)
+worked-pass : (i : ℕ) → at worked-tests i ≡ true
+worked-pass = passes worked-tests (passes groups all-right 1)
 
-further-pass : All (λ x. x ≡ true) further-tests
-further-pass = each-passes further-tests (passes .1 .1 .0)
+further-pass : (i : ℕ) → at further-tests i ≡ true
+further-pass = passes further-tests (passes groups all-right 2)
 
-route-pass : All (λ x. x ≡ true) route-tests
-route-pass = each-passes route-tests (passes .1 .1 .1 .0)
+route-pass : (i : ℕ) → at route-tests i ≡ true
+route-pass = passes route-tests (passes groups all-right 3)
 
-scale-pass : All (λ x. x ≡ true) scale-tests
-scale-pass = each-passes scale-tests (passes .1 .1 .1 .1 .0)
+scale-pass : (i : ℕ) → at scale-tests i ≡ true
+scale-pass = passes scale-tests (passes groups all-right 4)
 
-run-pass : All (λ x. x ≡ true) run-tests
-run-pass = each-passes run-tests (passes .1 .1 .1 .1 .1 .0)
+run-pass : (i : ℕ) → at run-tests i ≡ true
+run-pass = passes run-tests (passes groups all-right 5)
 
 -- what the tests rest on
 number-value : (x : ℕ) → leb x most ≡ true → x ≤ most
@@ -130,68 +133,68 @@ tally-told : (n : Network) → proper? n ≡ true → Told-right numbers tally n
 tally-told n h = record { lawful = tally-lawful; proper = proper-sound n h; value = numbers-value; same = numbers-same }
 
 by-total : Told-right number total worked
-by-total = total-told worked (proper-pass .0)
+by-total = total-told worked (proper-pass 0)
 
 by-worst : Told-right number worst worked
-by-worst = worst-told worked (proper-pass .0)
+by-worst = worst-told worked (proper-pass 0)
 
 by-tally : Told-right numbers tally worked
-by-tally = tally-told worked (proper-pass .0)
+by-tally = tally-told worked (proper-pass 0)
 
 pub worked-lines : Worked-lines
-worked-lines = (lines-right number total worked by-total total-lines (worked-pass .0), lines-right number worst worked by-worst worst-lines (worked-pass .1 .0), lines-right numbers tally worked by-tally tally-lines (worked-pass .1 .1 .0))
+worked-lines = (lines-right number total worked by-total total-lines (worked-pass 0), lines-right number worst worked by-worst worst-lines (worked-pass 1), lines-right numbers tally worked by-tally tally-lines (worked-pass 2))
 
 pub only-these : Only-these
-only-these = (lines-only number total worked by-total total-lines (worked-pass .0), lines-only number worst worked by-worst worst-lines (worked-pass .1 .0), lines-only numbers tally worked by-tally tally-lines (worked-pass .1 .1 .0))
+only-these = (lines-only number total worked by-total total-lines (worked-pass 0), lines-only number worst worked by-worst worst-lines (worked-pass 1), lines-only numbers tally worked by-tally tally-lines (worked-pass 2))
 
 hold : {V : Type 0} (d : Told-by V) (s : Measure V) (n : Network) → Told-right d s n → (xs : List (Line V)) → lines? d s n xs ≡ true → Lines s n xs × Only s n xs
 hold d s n g xs h = (lines-right d s n g xs h, lines-only d s n g xs h)
 
 pub further : Further-lines
 further = record {
-  by-total = hold number total worked by-total further-lines (further-pass .0);
-  by-worst = hold number worst worked by-worst worst-further (further-pass .1 .0);
-  by-tally = hold numbers tally worked by-tally tally-further (further-pass .1 .1 .0);
-  at-single-1 = hold number total (single 1) (total-told (single 1) (proper-pass .1 .0)) single-1-lines (further-pass .1 .1 .1 .0);
-  at-single-7 = hold number total (single 7) (total-told (single 7) (proper-pass .1 .1 .0)) single-7-lines (further-pass .1 .1 .1 .1 .0);
-  at-wide = hold number total wide (total-told wide (proper-pass .1 .1 .1 .0)) wide-lines (further-pass .1 .1 .1 .1 .1 .0);
-  at-ring = hold number total ring (total-told ring (proper-pass .1 .1 .1 .1 .0)) ring-lines (further-pass .1 .1 .1 .1 .1 .1 .0);
-  wrong-at-ring = wrong-sound number total ring ring-wrong (further-pass .1 .1 .1 .1 .1 .1 .1 .0);
+  by-total = hold number total worked by-total further-lines (further-pass 0);
+  by-worst = hold number worst worked by-worst worst-further (further-pass 1);
+  by-tally = hold numbers tally worked by-tally tally-further (further-pass 2);
+  at-single-1 = hold number total (single 1) (total-told (single 1) (proper-pass 1)) single-1-lines (further-pass 3);
+  at-single-7 = hold number total (single 7) (total-told (single 7) (proper-pass 2)) single-7-lines (further-pass 4);
+  at-wide = hold number total wide (total-told wide (proper-pass 3)) wide-lines (further-pass 5);
+  at-ring = hold number total ring (total-told ring (proper-pass 4)) ring-lines (further-pass 6);
+  wrong-at-ring = wrong-sound number total ring ring-wrong (further-pass 7);
 }
 
 pub routes-and-sets : Route-lines
 routes-and-sets = record {
-  routes = routes-sound worked worked-routes (route-pass .0);
-  no-routes = no-routes-sound worked worked-no-routes (route-pass .1 .0);
-  no-way = no-way-sound worked worked-no-way (route-pass .1 .1 .0);
-  on-ring = routes-sound ring ring-routes (route-pass .1 .1 .1 .0);
-  not-on-ring = no-routes-sound ring ring-no-routes (route-pass .1 .1 .1 .1 .0);
-  choices = choices-sound worked worked-choices (route-pass .1 .1 .1 .1 .1 .0);
-  no-choices = no-choices-sound worked worked-no-choices (route-pass .1 .1 .1 .1 .1 .1 .0);
-  by-total = shares-sound number total eqb-true worked total-shares (route-pass .1 .1 .1 .1 .1 .1 .1 .0);
-  by-worst = shares-sound number worst eqb-true worked worst-shares (route-pass .1 .1 .1 .1 .1 .1 .1 .1 .0);
-  by-tally = shares-sound numbers tally numbers-same worked tally-shares (route-pass .1 .1 .1 .1 .1 .1 .1 .1 .1 .0);
+  routes = routes-sound worked worked-routes (route-pass 0);
+  no-routes = no-routes-sound worked worked-no-routes (route-pass 1);
+  no-way = no-way-sound worked worked-no-way (route-pass 2);
+  on-ring = routes-sound ring ring-routes (route-pass 3);
+  not-on-ring = no-routes-sound ring ring-no-routes (route-pass 4);
+  choices = choices-sound worked worked-choices (route-pass 5);
+  no-choices = no-choices-sound worked worked-no-choices (route-pass 6);
+  by-total = shares-sound number total eqb-true worked total-shares (route-pass 7);
+  by-worst = shares-sound number worst eqb-true worked worst-shares (route-pass 8);
+  by-tally = shares-sound numbers tally numbers-same worked tally-shares (route-pass 9);
 }
 
 pub scales : Scale-lines
 scales = record {
-  by-total = figures-sound number total number-value (λ x h. le-leb x most h) eqb-true total-figures (scale-pass .0);
-  by-worst = figures-sound number worst number-value (λ x h. le-leb x most h) eqb-true worst-figures (scale-pass .1 .0);
-  by-tally = figures-sound numbers tally numbers-value numbers-valued numbers-same tally-figures (scale-pass .1 .1 .0);
+  by-total = figures-sound number total number-value (λ x h. le-leb x most h) eqb-true total-figures (scale-pass 0);
+  by-worst = figures-sound number worst number-value (λ x h. le-leb x most h) eqb-true worst-figures (scale-pass 1);
+  by-tally = figures-sound numbers tally numbers-value numbers-valued numbers-same tally-figures (scale-pass 2);
 }
 
 first-kept : Leads-to total worked nothing-yet first-run feed-7
-first-kept = run-leads number total worked by-total nothing-yet first-run feed-7 (run-pass .0)
+first-kept = run-leads number total worked by-total nothing-yet first-run feed-7 (run-pass 0)
 
 pub runs : Run-lines
 runs = record {
   booked = first-kept .0;
   first = first-kept;
-  second = run-leads number total worked by-total feed-7 second-run feed-7 (run-pass .1 .0);
-  third = run-leads number total worked by-total feed-7 third-run feed-9 (run-pass .1 .1 .0);
-  fourth = run-leads number total worked by-total feed-9 fourth-run nothing-yet (run-pass .1 .1 .1 .0);
+  second = run-leads number total worked by-total feed-7 second-run feed-7 (run-pass 1);
+  third = run-leads number total worked by-total feed-7 third-run feed-9 (run-pass 2);
+  fourth = run-leads number total worked by-total feed-9 fourth-run nothing-yet (run-pass 3);
   not-first = λ h. let e : _≡_ {A = ℕ} 39999 40000 = h .0 .1 in omega arith;
   not-later = λ h. let e : _≡_ {A = ℕ} 29999 30000 = h .1 .0 .1 in omega arith;
   not-after = λ h. let e : _≡_ {A = ℕ} 60000 40000 = h .1 .0 .1 in omega arith;
-  changes = steps-sound steps (run-pass .1 .1 .1 .1 .0);
+  changes = steps-sound steps (run-pass 4);
 }
