@@ -3,6 +3,8 @@ pub mod Examples
 pub mod Figures
 pub mod Gap
 pub mod Lists
+pub mod Loading
+pub mod Offsets
 pub mod Readings
 pub mod Steps
 pub mod Tables

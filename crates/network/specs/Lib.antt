@@ -1,6 +1,7 @@
 pub mod Checks
 pub mod Claims
 pub mod Image
+pub mod Layout
 pub mod MainRoute
 pub mod Network
 pub mod Routes

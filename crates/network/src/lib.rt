@@ -1,5 +1,7 @@
 // What a network is, the registers that hold one, and the numbers by which an order is refused.
+mod figure;
 mod image;
+mod layout;
 mod refusal;
 mod register;
 mod route;

@@ -1,0 +1,129 @@
+-- The loader's steps and refusals, as the code meets them.
+use mathlib.Core.Path.{_≡_, refl, sym, ap, subst, _∙_}
+use mathlib.Core.List.{List, [], _∷_, _++_, map}
+use mathlib.Core.Logic.{_⊎_, inl, inr, ⊎-elim}
+use Prim.Native.Nat.{ℕ, zero, suc, _+_, _-_, _*_, _<_, _≤_}
+use native.Mathlib.Omega.{arith}
+use native.Mathlib.Nat.{add-assoc}
+use lib.ListN.{length, getD, take, drop}
+use Rattle.std.specs.Iters.{counting}
+use Rattle.std.proofs.shelf.Counted.{length-map-counting, map-counting-more}
+use Rattle.std.proofs.shelf.Lists.{nil-from-length}
+use Rattle.network.specs.declared.layout.Layout.{Layout}
+use Rattle.network.specs.declared.layout.Mark.the-variants as mark
+use Rattle.network.specs.declared.refusal.LoadRefusal.{LoadRefusal}
+use Rattle.network.specs.declared.refusal.Refusal.{Refusal}
+use Rattle.network.specs.declared.register.Circuit.{Circuit}
+use Rattle.network.specs.Claims.{At}
+use Rattle.network.specs.Checks.{First}
+use Rattle.network.specs.Image.{PL, CT, EN, Repeats, Refused, place-checks}
+use Rattle.network.specs.Layout.{name-from, after-place, place-offset, names-in, circuit-from, circuits-in, end-of, Scanned, MarkAt}
+use Rattle.network.specs.Refusals.{number-of}
+use Rattle.network.proofs.Offsets.{offset-more}
+use Rattle.network.proofs.Steps as steps
+use Rattle.network.proofs.Views as views
+
+-- a refusal that was made of its parts
+pub refused-by : (bytes : List ℕ) (l : Layout) (e : LoadRefusal) (r : Refusal) → e ≡ record { refusal = r; at = end-of l } → Refused bytes (number-of r) (end-of l) → Refused bytes (number-of (e .refusal)) (e .at)
+refused-by bytes l e r p q = subst (λ z. Refused bytes (number-of (z .refusal)) (z .at)) (sym p) q
+
+-- the same load by equal lists and an equal offset
+at-as : (bytes : List ℕ) (n m : List (List ℕ)) (c d : List Circuit) (o p : ℕ) → n ≡ m → c ≡ d → o ≡ p → At bytes n c o → At bytes m d p
+at-as bytes n m c d o p e f g a = subst (λ z. At bytes m d z) g (subst (λ z. At bytes m z o) f (subst (λ z. At bytes z c o) e a))
+
+module _ (bytes : List ℕ) (l : Layout) (s : Scanned bytes l) where
+  abbrev Names : List (List ℕ)
+  Names = names-in bytes (l .places)
+
+  abbrev Circuits : List Circuit
+  Circuits = circuits-in bytes (l .first) (l .circuits)
+
+  abbrev Rest : List ℕ
+  Rest = drop (end-of l) bytes
+
+  many-places : length Names ≡ l .places
+  many-places = length-map-counting (λ i. name-from bytes (place-offset bytes i)) 0 (l .places)
+
+  many-circuits : length Circuits ≡ l .circuits
+  many-circuits = length-map-counting (λ i. circuit-from bytes (l .first + 14 * i)) 0 (l .circuits)
+
+  left : length Rest ≡ length bytes - end-of l
+  left = views.left bytes Names Circuits (end-of l)
+
+  -- the code's offset is the end of the records so far
+  module _ (at : ℕ) (here : at ≡ end-of l) where
+    -- no mark
+    pub mark-short : length bytes - at < 2 → Refused bytes 1 (end-of l)
+    mark-short h = let k = left in steps.no-mark bytes Names Circuits (end-of l) (s .here) (omega arith)
+
+    pub mark-unknown : 2 ≤ length bytes - at → (take 2 (drop at bytes) ≡ PL → ⊥) → (take 2 (drop at bytes) ≡ CT → ⊥) → (take 2 (drop at bytes) ≡ EN → ⊥) → Refused bytes 2 (end-of l)
+    mark-unknown h p c e =
+        let k = left in
+        let t : take 2 (drop at bytes) ≡ take 2 Rest = ap (λ z. take 2 (drop z bytes)) here in
+        steps.unknown-mark bytes Names Circuits (end-of l) (s .here) (omega arith) (λ m. ⊎-elim (λ q. p (t ∙ q)) (λ n. ⊎-elim (λ q. c (t ∙ q)) (λ q. e (t ∙ q)) n) m)
+
+    -- a place
+    module _ (m : MarkAt bytes (end-of l) mark.Place) where
+      size-is : getD Rest 2 0 ≡ getD bytes (at + 2) 0
+      size-is = views.size-here bytes Names Circuits (end-of l) ∙ ap (λ z. getD bytes (z + 2) 0) (sym here)
+
+      name-is : steps.told-name bytes Names Circuits (end-of l) ≡ name-from bytes at
+      name-is = views.name-here bytes Names Circuits (end-of l) ∙ ap (name-from bytes) (sym here)
+
+      place-refused : (k : ℕ) → First k (place-checks Names Circuits Rest) → Refused bytes k (end-of l)
+      place-refused k f = let j = left in steps.place-fault bytes Names Circuits (end-of l) k (s .here) (omega (arith, m .within)) (m .stands) f
+
+      pub place-late : 0 < l .circuits → Refused bytes 4 (end-of l)
+      place-late h = place-refused 4 (steps.place-late bytes Names Circuits (end-of l) (omega (arith, many-circuits)))
+
+      module _ (none : l .circuits ≤ 0) where
+        nothing : length Circuits ≡ 0
+        nothing = omega (arith, many-circuits)
+
+        pub place-over : 128 ≤ l .places → Refused bytes 7 (end-of l)
+        place-over h = place-refused 7 (steps.place-over bytes Names Circuits (end-of l) nothing (omega (arith, many-places)))
+
+        module _ (few : l .places < 128) where
+          room : length Names < 128
+          room = omega (arith, many-places)
+
+          pub place-short : length bytes - at < 3 → Refused bytes 1 (end-of l)
+          place-short h = let k = left in place-refused 1 (steps.place-short bytes Names Circuits (end-of l) nothing room (omega arith))
+
+          module _ (begun : 3 ≤ length bytes - at) where
+            pub place-size : ((1 ≤ getD bytes (at + 2) 0) × (getD bytes (at + 2) 0 ≤ 16) → ⊥) → Refused bytes 3 (end-of l)
+            place-size h = let k = left in place-refused 3 (steps.place-size bytes Names Circuits (end-of l) nothing room (omega arith) (λ p. h (omega (arith, size-is, p .0), omega (arith, size-is, p .1))))
+
+            module _ (some : 1 ≤ getD bytes (at + 2) 0) (most : getD bytes (at + 2) 0 ≤ 16) where
+              some-here : 1 ≤ getD Rest 2 0
+              some-here = omega (arith, size-is)
+
+              most-here : getD Rest 2 0 ≤ 16
+              most-here = omega (arith, size-is)
+
+              pub place-cut : length bytes - at < 3 + getD bytes (at + 2) 0 → Refused bytes 1 (end-of l)
+              place-cut h = let k = left in place-refused 1 (steps.place-cut bytes Names Circuits (end-of l) nothing room (omega arith) some-here most-here (omega (arith, size-is)))
+
+              module _ (whole : 3 + getD bytes (at + 2) 0 ≤ length bytes - at) where
+                whole-here : 3 + getD Rest 2 0 ≤ length Rest
+                whole-here = omega (arith, left, size-is)
+
+                pub place-twice : Repeats (name-from bytes at) Names → Refused bytes 3 (end-of l)
+                place-twice h = place-refused 3 (steps.place-twice bytes Names Circuits (end-of l) nothing room some-here most-here whole-here (subst (λ z. Repeats z Names) (sym name-is) h))
+
+                -- it is one place more
+                pub place-next : (Repeats (name-from bytes at) Names → ⊥) → Scanned bytes (record { places = l .places + 1; circuits = 0; first = at + 3 + getD bytes (at + 2) 0 })
+                place-next new =
+                    let n : ℕ = getD bytes (at + 2) 0 in
+                    let begins : at ≡ place-offset bytes (l .places) = omega (arith, here, none, s .first-is) in
+                    let grown = map-counting-more (λ i. name-from bytes (place-offset bytes i)) 0 (l .places) (l .places) (omega arith) in
+                    let names : Names ++ steps.told-name bytes Names Circuits (end-of l) ∷ [] ≡ names-in bytes (l .places + 1) = ap (λ z. Names ++ z ∷ []) (name-is ∙ ap (name-from bytes) begins) ∙ sym grown in
+                    let empty : Circuits ≡ [] = nil-from-length Circuits nothing in
+                    let ends : end-of l + (3 + getD Rest 2 0) ≡ at + 3 + n + 14 * 0 = omega (arith, here, size-is) in
+                    record {
+                      within = omega arith;
+                      few-places = omega arith;
+                      few-circuits = omega arith;
+                      first-is = add-assoc at 3 n ∙ ap (after-place bytes) begins ∙ sym (offset-more bytes (l .places));
+                      here = at-as bytes (Names ++ steps.told-name bytes Names Circuits (end-of l) ∷ []) (names-in bytes (l .places + 1)) Circuits [] (end-of l + (3 + getD Rest 2 0)) (at + 3 + n + 14 * 0) names empty ends (steps.place-step bytes Names Circuits (end-of l) (s .here) (m .stands) empty room some-here most-here whole-here (λ r. new (subst (λ z. Repeats z Names) name-is r)));
+                    }
