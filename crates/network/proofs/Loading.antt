@@ -16,9 +16,11 @@ use Rattle.network.specs.declared.refusal.Refusal.{Refusal}
 use Rattle.network.specs.declared.register.Circuit.{Circuit}
 use Rattle.network.specs.Claims.{At}
 use Rattle.network.specs.Checks.{First}
-use Rattle.network.specs.Image.{PL, CT, EN, Repeats, Refused, place-checks}
-use Rattle.network.specs.Layout.{name-from, after-place, place-offset, names-in, circuit-from, circuits-in, end-of, Scanned, MarkAt}
+use Rattle.network.specs.Image.{at16, PL, CT, EN, BadEnds, BadFigures, Repeats, Refused, place-checks, told, circuit-checks, end-checks}
+use Rattle.network.specs.Layout.{name-from, after-place, place-offset, names-in, circuit-from, circuits-in, end-of, Scanned, Complete, MarkAt}
+use Rattle.network.specs.Network.{Sound}
 use Rattle.network.specs.Refusals.{number-of}
+use Rattle.network.proofs.Figures.{at16-drop}
 use Rattle.network.proofs.Offsets.{offset-more}
 use Rattle.network.proofs.Steps as steps
 use Rattle.network.proofs.Views as views
@@ -127,3 +129,77 @@ module _ (bytes : List ℕ) (l : Layout) (s : Scanned bytes l) where
                       first-is = add-assoc at 3 n ∙ ap (after-place bytes) begins ∙ sym (offset-more bytes (l .places));
                       here = at-as bytes (Names ++ steps.told-name bytes Names Circuits (end-of l) ∷ []) (names-in bytes (l .places + 1)) Circuits [] (end-of l + (3 + getD Rest 2 0)) (at + 3 + n + 14 * 0) names empty ends (steps.place-step bytes Names Circuits (end-of l) (s .here) (m .stands) empty room some-here most-here whole-here (λ r. new (subst (λ z. Repeats z Names) name-is r)));
                     }
+
+    -- a circuit
+    module _ (m : MarkAt bytes (end-of l) mark.Circuit) where
+      circuit-is : told Names Circuits Rest ≡ circuit-from bytes at
+      circuit-is = views.told-here bytes Names Circuits (end-of l) ∙ ap (circuit-from bytes) (sym here)
+
+      circuit-refused : (k : ℕ) → First k (circuit-checks Names Circuits Rest) → Refused bytes k (end-of l)
+      circuit-refused k f = let j = left in steps.circuit-fault bytes Names Circuits (end-of l) k (s .here) (omega (arith, m .within)) (m .stands) f
+
+      pub circuit-over : 384 ≤ l .circuits → Refused bytes 7 (end-of l)
+      circuit-over h = circuit-refused 7 (steps.circuit-over bytes Names Circuits (end-of l) (omega (arith, many-circuits)))
+
+      module _ (few : l .circuits < 384) where
+        few-here : length Circuits < 384
+        few-here = omega (arith, many-circuits)
+
+        pub circuit-cut : length bytes - at < 14 → Refused bytes 1 (end-of l)
+        circuit-cut h = let k = left in circuit-refused 1 (steps.circuit-cut bytes Names Circuits (end-of l) few-here (omega arith))
+
+        -- the circuit that was read
+        module _ (whole : 14 ≤ length bytes - at) (c : Circuit) (is : c ≡ circuit-from bytes at) where
+          whole-record : 14 ≤ length Rest
+          whole-record = omega (arith, left)
+
+          same : c ≡ told Names Circuits Rest
+          same = is ∙ sym circuit-is
+
+          ends-here : BadEnds (length Names) (told Names Circuits Rest) → BadEnds (l .places) c
+          ends-here h = subst (λ z. BadEnds (l .places) z) (sym same) (subst (λ z. BadEnds z (told Names Circuits Rest)) many-places h)
+
+          pub circuit-ends : BadEnds (l .places) c → Refused bytes 5 (end-of l)
+          circuit-ends h = circuit-refused 5 (steps.circuit-ends bytes Names Circuits (end-of l) few-here whole-record (subst (λ z. BadEnds (length Names) z) same (subst (λ z. BadEnds z c) (sym many-places) h)))
+
+          module _ (good : BadEnds (l .places) c → ⊥) where
+            pub circuit-figures : BadFigures c → Refused bytes 6 (end-of l)
+            circuit-figures h = circuit-refused 6 (steps.circuit-figures bytes Names Circuits (end-of l) few-here whole-record (λ b. good (ends-here b)) (subst (λ z. BadFigures z) same h))
+
+            -- it is one circuit more
+            pub circuit-next : (BadFigures c → ⊥) → steps.Below bytes (at + 2) (at + 14) → Scanned bytes (record { places = l .places; circuits = l .circuits + 1; first = l .first })
+            circuit-next fine small =
+                let sound : Sound (length Names) (told Names Circuits Rest) = steps.sound-told (length Names) (told Names Circuits Rest) (λ h. good (ends-here h)) (λ h. fine (subst (λ z. BadFigures z) (sym same) h)) in
+                let grown = map-counting-more (λ i. circuit-from bytes (l .first + 14 * i)) 0 (l .circuits) (l .circuits) (omega arith) in
+                let circuits : Circuits ++ told Names Circuits Rest ∷ [] ≡ circuits-in bytes (l .first) (l .circuits + 1) = ap (λ z. Circuits ++ z ∷ []) (circuit-is ∙ ap (circuit-from bytes) here) ∙ sym grown in
+                let ends : end-of l + 14 ≡ l .first + 14 * (l .circuits + 1) = omega arith in
+                record {
+                  within = omega arith;
+                  few-places = s .few-places;
+                  few-circuits = omega arith;
+                  first-is = s .first-is;
+                  here = at-as bytes Names Names (Circuits ++ told Names Circuits Rest ∷ []) (circuits-in bytes (l .first) (l .circuits + 1)) (end-of l + 14) (l .first + 14 * (l .circuits + 1)) refl circuits ends (steps.circuit-step bytes Names Circuits (end-of l) (s .here) (subst (λ z. steps.Below bytes (z + 2) (z + 14)) here small) (m .stands) few-here whole-record sound);
+                }
+
+    -- the end
+    module _ (m : MarkAt bytes (end-of l) mark.End) where
+      end-refused : (k : ℕ) → First k (end-checks Names Circuits Rest) → Refused bytes k (end-of l)
+      end-refused k f = let j = left in steps.end-fault bytes Names Circuits (end-of l) k (s .here) (omega (arith, m .within)) (m .stands) f
+
+      count-is : at16 Rest 2 ≡ at16 bytes (at + 2)
+      count-is = at16-drop bytes (end-of l) 2 ∙ ap (λ z. at16 bytes (z + 2)) (sym here)
+
+      pub end-cut : length bytes - at < 4 → Refused bytes 1 (end-of l)
+      end-cut h = let k = left in end-refused 1 (steps.end-cut bytes Names Circuits (end-of l) (omega arith))
+
+      pub end-wrong : 4 ≤ length bytes - at → ((at16 bytes (at + 2) ≡ l .places + l .circuits) × (length bytes - at ≡ 4) → ⊥) → Refused bytes 8 (end-of l)
+      end-wrong h no-end = let k = left in end-refused 8 (steps.end-wrong bytes Names Circuits (end-of l) (omega arith) (λ p. no-end (omega (arith, count-is, many-places, many-circuits, p .0), omega (arith, p .1))))
+
+      pub complete : at16 bytes (at + 2) ≡ l .places + l .circuits → length bytes - at ≡ 4 → steps.Below bytes (at + 2) (at + 4) → Complete bytes l
+      complete count last small = record {
+        ends = omega (arith, s .within);
+        few-places = s .few-places;
+        few-circuits = s .few-circuits;
+        first-is = s .first-is;
+        image = steps.end-step bytes Names Circuits (end-of l) (s .here) (subst (λ z. steps.Below bytes (z + 2) (z + 4)) here small) (m .stands) (omega (arith, left)) (omega (arith, count-is, many-places, many-circuits));
+      }

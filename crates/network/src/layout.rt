@@ -5,9 +5,11 @@ ghost use lib.ListN.{length, take, drop};
 ghost use Rattle.std.specs.Orderings.{Decides};
 ghost use Rattle.std.specs.declared.result.Result.the-variants.{Ok, Err};
 ghost use Rattle.network.specs.Image.{Repeats, Refused};
-ghost use Rattle.network.specs.Layout.{end-of, place-offset, after-place, name-from, names-in, Scanned, MarkAt};
+ghost use Rattle.network.specs.Layout.{end-of, place-offset, after-place, name-from, names-in, Scanned, Complete, MarkAt};
 ghost use Rattle.network.specs.Refusals.{number-of};
 
+use super::figure::read16;
+use super::figure::read_circuit;
 use super::refusal::LoadRefusal;
 use super::refusal::Refusal;
 
@@ -132,4 +134,69 @@ fn after_place(image: &[u8], layout: Layout) -> Result<Layout, LoadRefusal>
         circuits: 0,
         first: at + 3 + size,
     })
+}
+
+// The layout with the circuit that begins after it.
+fn after_circuit(image: &[u8], layout: Layout) -> Result<Layout, LoadRefusal>
+    requires so_far { ⌜ Scanned (now image) layout ⌝ }
+    requires marked { ⌜ MarkAt (now image) (end-of layout) Mark.Circuit ⌝ }
+    ensures { λ r. ⌜ elim r [ Ok l ↦ Scanned (now (image .entry)) l × (end-of layout < end-of l) | Err e ↦ Refused (now (image .entry)) (number-of (e .refusal)) (e .at) ] ⌝ }
+{
+    let at = layout.end();
+    if layout.circuits >= 384 {
+        return Err(layout.refused(Refusal::Full));
+    }
+    if image.len() - at < 14 {
+        return Err(layout.refused(Refusal::Short));
+    }
+    let circuit = read_circuit(image, at);
+    if circuit.bad_ends(layout.places) {
+        return Err(layout.refused(Refusal::Ends));
+    }
+    if circuit.bad_figures() {
+        return Err(layout.refused(Refusal::Figure));
+    }
+    Ok(Layout {
+        places: layout.places,
+        circuits: layout.circuits + 1,
+        first: layout.first,
+    })
+}
+
+// That the end record after the layout tells how many records came before it, and that nothing comes after it.
+fn check_end(image: &[u8], layout: Layout) -> Result<(), LoadRefusal>
+    requires so_far { ⌜ Scanned (now image) layout ⌝ }
+    requires marked { ⌜ MarkAt (now image) (end-of layout) Mark.End ⌝ }
+    ensures { λ r. ⌜ elim r [ Ok _ ↦ Complete (now (image .entry)) layout | Err e ↦ Refused (now (image .entry)) (number-of (e .refusal)) (e .at) ] ⌝ }
+{
+    let at = layout.end();
+    if image.len() - at < 4 {
+        return Err(layout.refused(Refusal::Short));
+    }
+    let count = read16(image, at + 2);
+    if count != layout.places + layout.circuits || image.len() - at != 4 {
+        return Err(layout.refused(Refusal::Tail));
+    }
+    Ok(())
+}
+
+// The layout of an image, or what is wrong with the first record that fails.
+pub fn read_layout(image: &[u8]) -> Result<Layout, LoadRefusal>
+    ensures { λ r. ⌜ elim r [ Ok l ↦ Complete (now (image .entry)) l | Err e ↦ Refused (now (image .entry)) (number-of (e .refusal)) (e .at) ] ⌝ }
+{
+    let mut layout = Layout {
+        places: 0,
+        circuits: 0,
+        first: 0,
+    };
+    'records: loop {
+        match mark_after(image, layout)? {
+            Mark::Place => layout = after_place(image, layout)?,
+            Mark::Circuit => layout = after_circuit(image, layout)?,
+            Mark::End => {
+                check_end(image, layout)?;
+                return Ok(layout);
+            }
+        }
+    }
 }

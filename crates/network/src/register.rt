@@ -3,6 +3,8 @@ ghost use mathlib.Core.Path.{_≡_};
 ghost use Prim.Native.Nat.{_<_, _≤_};
 ghost use lib.ListN.{length};
 ghost use Rattle.std.specs.declared.option.Option.the-variants.{Some, None};
+ghost use Rattle.std.specs.Orderings.{Decides};
+ghost use Rattle.network.specs.Image.{BadEnds, BadFigures};
 ghost use Rattle.network.specs.Network.{Network, Proper, circuit as circuit-of};
 
 // A circuit leads from one place to another, in that direction only. Bandwidth is in kbit/s.
@@ -12,6 +14,22 @@ pub struct Circuit {
     pub to: u16,
     pub bandwidth: u32,
     pub cost: u32,
+}
+
+impl Circuit {
+    // Whether an end is no place, or both ends are equal.
+    pub fn bad_ends(self, places: u16) -> bool
+        ensures { λ r. ⌜ Decides r (BadEnds places self) ⌝ }
+    {
+        self.from >= places || self.to >= places || self.from == self.to
+    }
+
+    // Whether bandwidth or cost is out of its bounds.
+    pub fn bad_figures(self) -> bool
+        ensures { λ r. ⌜ Decides r (BadFigures self) ⌝ }
+    {
+        self.bandwidth < 1 || self.bandwidth > 64_000_000 || self.cost > 1_000_000
+    }
 }
 
 // What it tells is exactly its network, and telling changes nothing.
