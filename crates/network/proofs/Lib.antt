@@ -2,6 +2,7 @@ pub mod Counts
 pub mod Examples
 pub mod Figures
 pub mod Gap
+pub mod Holding
 pub mod Lists
 pub mod Loading
 pub mod Offsets

@@ -1,5 +1,6 @@
 pub mod Checks
 pub mod Claims
+pub mod Held
 pub mod Image
 pub mod Layout
 pub mod MainRoute

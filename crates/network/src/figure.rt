@@ -4,7 +4,6 @@ ghost use Prim.Native.Nat.{ℕ, _+_, _<_, _≤_};
 ghost use lib.ListN.{length, getD};
 ghost use Rattle.network.specs.Image.{at16, at32};
 ghost use Rattle.network.specs.Layout.{circuit-from};
-
 use super::register::Circuit;
 
 pub fn read16(image: &[u8], at: usize) -> u16

@@ -7,9 +7,8 @@ ghost use Rattle.std.specs.declared.result.Result.the-variants.{Ok, Err};
 ghost use Rattle.network.specs.Image.{Repeats, Refused};
 ghost use Rattle.network.specs.Layout.{end-of, place-offset, after-place, name-from, names-in, Scanned, Complete, MarkAt};
 ghost use Rattle.network.specs.Refusals.{number-of};
-
-use super::figure::read16;
 use super::figure::read_circuit;
+use super::figure::read16;
 use super::refusal::LoadRefusal;
 use super::refusal::Refusal;
 

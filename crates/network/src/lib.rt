@@ -7,6 +7,8 @@ mod register;
 mod route;
 mod table;
 
+pub use image::ImageRegister;
+pub use image::ImageRegisterRegister;
 pub use image::image_stands;
 pub use refusal::LoadRefusal;
 pub use refusal::LoadRefusalDebug;

@@ -18,8 +18,7 @@ pub returns-then-image-at : need.returns-then-image-at
 returns-then-image-at c =
     let s = c .args .image .now in
     let m = c .args .letters .now in
-    let p = pair m (c .told-letters) in
-    (
+    let p = pair m (c .told-letters) in (
       (λ e. mark-here s [] [] (c .args .at) (getD m 0 0) (getD m 1 0) (c .pre) (c .if-image-at .taken) (eqb-true _ _ e) ∙ sym p),
       λ e. eq-eqb _ _ (mark-read s [] [] (c .args .at) (getD m 0 0) (getD m 1 0) (c .pre) (e ∙ p) .1),
     )
