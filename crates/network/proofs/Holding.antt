@@ -4,12 +4,12 @@ use mathlib.Core.List.{List, [], _∷_, map}
 use Prim.Native.Nat.{ℕ, _+_, _*_, _<_, _≤_}
 use native.Mathlib.Omega.{arith}
 use lib.ListN.{length, getD}
-use Rattle.std.proofs.shelf.Counted.{length-map-counting, getD-map-counting}
+use Rattle.std.proofs.shelf.Counted.{getD-map-counting}
 use Rattle.network.specs.declared.layout.Layout.{Layout}
 use Rattle.network.specs.declared.register.Circuit.{Circuit}
-use Rattle.network.specs.Held.{Held, Loaded}
+use Rattle.network.specs.Held.{Held, Loaded, name-count}
 use Rattle.network.specs.Image.{Image}
-use Rattle.network.specs.Layout.{name-from, place-offset, names-in, circuit-from, circuits-in, network-in, ImageOf, Complete}
+use Rattle.network.specs.Layout.{names-in, circuit-from, circuits-in, network-in, Complete}
 use Rattle.network.specs.Network.{Network, no-circuit}
 use Rattle.network.proofs.Steps.{at-start}
 
@@ -19,12 +19,6 @@ nothing-held = (refl, omega arith, omega arith, refl, ∣ record { records = at-
 
 pub complete-held : (bytes : List ℕ) (l : Layout) → Complete bytes l → Held bytes l
 complete-held bytes l c = (c .ends, c .few-places, c .few-circuits, c .first-is, ∣ c .image ∣₁)
-
-pub name-count : (bytes : List ℕ) (n : ℕ) → length (names-in bytes n) ≡ n
-name-count bytes n = length-map-counting (λ i. name-from bytes (place-offset bytes i)) 0 n
-
-pub circuit-count : (bytes : List ℕ) (first n : ℕ) → length (circuits-in bytes first n) ≡ n
-circuit-count bytes first n = length-map-counting (λ i. circuit-from bytes (first + 14 * i)) 0 n
 
 pub circuit-read : (bytes : List ℕ) (first n i : ℕ) → i < n → getD (circuits-in bytes first n) i no-circuit ≡ circuit-from bytes (first + 14 * i)
 circuit-read bytes first n i h = getD-map-counting (λ k. circuit-from bytes (first + 14 * k)) 0 n i i no-circuit h (omega arith)

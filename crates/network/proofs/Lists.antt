@@ -8,6 +8,7 @@ use native.Mathlib.Omega.{arith}
 use lib.ListN.{length, getD, drop}
 use Rattle.std.proofs.shelf.Tests.{false≢true, and-parts, and-from, or-cases, or-left, or-right, cases-bool, cond-true, cond-false}
 use Rattle.network.specs.Routes.{Each}
+pub use Rattle.network.specs.Routes.{each-at}
 
 abbrev pub every : {A : Type 0} → (A → Bool) → List A → Bool
 every p [] = true
@@ -27,12 +28,7 @@ In x [] = ⊥
 In x (y ∷ ys) = (x ≡ y) ⊎ In x ys
 
 module _ {A : Type 0} where
-  -- what holds of each element, by the elements' places
-  pub each-at : (P : A → Type 0) (xs : List A) (i : ℕ) (d : A) → i < length xs → Each P xs → P (getD xs i d)
-  each-at P [] i d h p = absurd (omega (arith, h))
-  each-at P (x ∷ xs) zero d h p = p .0
-  each-at P (x ∷ xs) (suc i) d h p = each-at P xs i d (omega (arith, h)) (p .1)
-
+  -- what holds at each place holds of each element
   pub at-each : (P : A → Type 0) (xs : List A) (d : A) → ((i : ℕ) → i < length xs → P (getD xs i d)) → Each P xs
   at-each P [] d f = tt
   at-each P (x ∷ xs) d f = (f 0 (omega arith), at-each P xs d (λ i h. f (suc i) (omega arith)))

@@ -7,7 +7,7 @@ use native.Mathlib.Omega.{arith}
 use native.Mathlib.Nat.{add-assoc}
 use lib.ListN.{length, getD, take, drop}
 use Rattle.std.specs.Iters.{counting}
-use Rattle.std.proofs.shelf.Counted.{length-map-counting, map-counting-more}
+use Rattle.std.proofs.shelf.Counted.{map-counting-more}
 use Rattle.std.proofs.shelf.Lists.{nil-from-length}
 use Rattle.network.specs.declared.layout.Layout.{Layout}
 use Rattle.network.specs.declared.layout.Mark.the-variants as mark
@@ -16,6 +16,7 @@ use Rattle.network.specs.declared.refusal.Refusal.{Refusal}
 use Rattle.network.specs.declared.register.Circuit.{Circuit}
 use Rattle.network.specs.Claims.{At}
 use Rattle.network.specs.Checks.{First}
+use Rattle.network.specs.Held.{name-count, circuit-count}
 use Rattle.network.specs.Image.{at16, PL, CT, EN, BadEnds, BadFigures, Repeats, Refused, place-checks, told, circuit-checks, end-checks}
 use Rattle.network.specs.Layout.{name-from, after-place, place-offset, names-in, circuit-from, circuits-in, end-of, Scanned, Complete, MarkAt}
 use Rattle.network.specs.Network.{Sound}
@@ -44,10 +45,10 @@ module _ (bytes : List ℕ) (l : Layout) (s : Scanned bytes l) where
   Rest = drop (end-of l) bytes
 
   many-places : length Names ≡ l .places
-  many-places = length-map-counting (λ i. name-from bytes (place-offset bytes i)) 0 (l .places)
+  many-places = name-count bytes (l .places)
 
   many-circuits : length Circuits ≡ l .circuits
-  many-circuits = length-map-counting (λ i. circuit-from bytes (l .first + 14 * i)) 0 (l .circuits)
+  many-circuits = circuit-count bytes (l .first) (l .circuits)
 
   left : length Rest ≡ length bytes - end-of l
   left = views.left bytes Names Circuits (end-of l)

@@ -12,9 +12,9 @@ use Rattle.std.proofs.shelf.Counted.{length-map-counting}
 use Rattle.network.specs.declared.layout.Layout.{Layout}
 use Rattle.network.specs.declared.register.Circuit.{Circuit}
 use Rattle.network.specs.Network.{Network, Sound, Proper, circuit, no-circuit}
-use Rattle.network.specs.Routes.{Each}
+use Rattle.network.specs.Routes.{Each, each-at}
 use Rattle.network.specs.Image.{Name, Repeats, Different, Records, Image}
-use Rattle.network.specs.Layout.{name-from, place-offset, names-in, circuits-in, network-in, end-of, ImageOf}
+use Rattle.network.specs.Layout.{name-from, place-offset, names-in, circuit-from, circuits-in, network-in, end-of, ImageOf}
 
 -- the image that a register holds is that of its places and circuits, which stand as the layout says
 abbrev pub Held : List ℕ → Layout → Type 0
@@ -67,19 +67,19 @@ image-prop bytes names circuits p q = λ i. record {
 pub image-held : (bytes : List ℕ) (l : Layout) → Held bytes l → ImageOf bytes l
 image-held bytes l h = ∥∥₁-elim (h .4) (image-prop bytes (names-in bytes (l .places)) (circuits-in bytes (l .first) (l .circuits))) (λ i. i)
 
--- what holds of each circuit holds of the circuit of a number
-each-sound : (places : ℕ) (circuits : List Circuit) (c : ℕ) → c < length circuits → Each (Sound places) circuits → Sound places (getD circuits c no-circuit)
-each-sound places [] c h e = absurd (omega (arith, h))
-each-sound places (x ∷ xs) zero h e = e .0
-each-sound places (x ∷ xs) (suc c) h e = each-sound places xs c (omega (arith, h)) (e .1)
+-- as many names as places, and as many circuits
+pub name-count : (bytes : List ℕ) (n : ℕ) → length (names-in bytes n) ≡ n
+name-count bytes n = length-map-counting (λ i. name-from bytes (place-offset bytes i)) 0 n
+
+pub circuit-count : (bytes : List ℕ) (first n : ℕ) → length (circuits-in bytes first n) ≡ n
+circuit-count bytes first n = length-map-counting (λ i. circuit-from bytes (first + 14 * i)) 0 n
 
 -- a register that holds an image keeps the limits
 pub proper-held : (bytes : List ℕ) (l : Layout) → Held bytes l → Proper (network-in bytes l)
 proper-held bytes l h =
     let i = image-held bytes l h in
-    let n : length (names-in bytes (l .places)) ≡ l .places = length-map-counting (λ k. name-from bytes (place-offset bytes k)) 0 (l .places) in
     record {
       few-places = h .1;
       few-circuits = i .records .few-circuits;
-      each = λ c k. subst (λ z. Sound z (circuit (network-in bytes l) c)) n (each-sound (length (names-in bytes (l .places))) (circuits-in bytes (l .first) (l .circuits)) c k (i .records .sound));
+      each = λ c k. subst (λ z. Sound z (circuit (network-in bytes l) c)) (name-count bytes (l .places)) (each-at (Sound (length (names-in bytes (l .places)))) (circuits-in bytes (l .first) (l .circuits)) c no-circuit k (i .records .sound));
     }

@@ -2,14 +2,21 @@
 use mathlib.Core.Path.{_≡_}
 use mathlib.Core.List.{List, [], _∷_, map}
 use mathlib.Core.Bool.{Bool, true, false, cond, _||_, _&&_}
-use Prim.Native.Nat.{ℕ, _+_, _*_, _<_, _≤_}
-use lib.ListN.{length}
+use Prim.Native.Nat.{ℕ, zero, suc, _+_, _*_, _<_, _≤_}
+use native.Mathlib.Omega.{arith}
+use lib.ListN.{length, getD}
 use lib.Dec.{eqb}
 use Rattle.network.specs.Network.{Network, circuit}
 
 abbrev pub Each : {A : Type 0} → (A → Type 0) → List A → Type 0
 Each P [] = Unit {0}
 Each P (x ∷ xs) = P x × Each P xs
+
+-- what holds of each element holds of the one at a place
+pub each-at : {A : Type 0} (P : A → Type 0) (xs : List A) (i : ℕ) (d : A) → i < length xs → Each P xs → P (getD xs i d)
+each-at P [] i d h p = absurd (omega (arith, h))
+each-at P (x ∷ xs) zero d h p = p .0
+each-at P (x ∷ xs) (suc i) d h p = each-at P xs i d (omega (arith, h)) (p .1)
 
 -- the circuit stands in the list
 abbrev pub uses : ℕ → List ℕ → Bool

@@ -6,7 +6,7 @@ ghost use Rattle.network.specs.Image.{at16, at32};
 ghost use Rattle.network.specs.Layout.{circuit-from};
 use super::register::Circuit;
 
-pub fn read16(image: &[u8], at: usize) -> u16
+pub(crate) fn read16(image: &[u8], at: usize) -> u16
     requires { ⌜ at + 2 ≤ length (now image) ⌝ }
     ensures is { λ r. ⌜ r ≡ at16 (now (image .entry)) at ⌝ }
     ensures small { λ r. ⌜ ((j : ℕ) → at ≤ j → j < at + 2 → getD (now (image .entry)) j 0 < 256) ⌝ }
@@ -14,7 +14,7 @@ pub fn read16(image: &[u8], at: usize) -> u16
     u16::from_be_bytes([image[at], image[at + 1]])
 }
 
-pub fn read32(image: &[u8], at: usize) -> u32
+pub(crate) fn read32(image: &[u8], at: usize) -> u32
     requires { ⌜ at + 4 ≤ length (now image) ⌝ }
     ensures is { λ r. ⌜ r ≡ at32 (now (image .entry)) at ⌝ }
     ensures small { λ r. ⌜ ((j : ℕ) → at ≤ j → j < at + 4 → getD (now (image .entry)) j 0 < 256) ⌝ }
@@ -23,7 +23,7 @@ pub fn read32(image: &[u8], at: usize) -> u32
 }
 
 // The circuit whose record begins at `at`.
-pub fn read_circuit(image: &[u8], at: usize) -> Circuit
+pub(crate) fn read_circuit(image: &[u8], at: usize) -> Circuit
     requires { ⌜ at + 14 ≤ length (now image) ⌝ }
     ensures is { λ r. ⌜ r ≡ circuit-from (now (image .entry)) at ⌝ }
     ensures small { λ r. ⌜ ((j : ℕ) → at + 2 ≤ j → j < at + 14 → getD (now (image .entry)) j 0 < 256) ⌝ }

@@ -14,7 +14,7 @@ use super::refusal::Refusal;
 
 // How many places and circuits an image has, and the offset of the first circuit.
 #[derive(Clone, Copy)]
-pub struct Layout {
+pub(crate) struct Layout {
     pub places: u16,
     pub circuits: u16,
     pub first: usize,
@@ -22,7 +22,7 @@ pub struct Layout {
 
 // What a record begins with.
 #[derive(Clone, Copy)]
-pub enum Mark {
+enum Mark {
     Place,
     Circuit,
     End,
@@ -30,7 +30,7 @@ pub enum Mark {
 
 impl Layout {
     // The offset after the places and circuits.
-    pub fn end(self) -> usize
+    pub(crate) fn end(self) -> usize
         requires { ⌜ end-of self < 2 ^ 64 ⌝ }
         ensures { λ r. ⌜ r ≡ end-of self ⌝ }
     {
@@ -180,7 +180,7 @@ fn check_end(image: &[u8], layout: Layout) -> Result<(), LoadRefusal>
 }
 
 // The layout of an image, or what is wrong with the first record that fails.
-pub fn read_layout(image: &[u8]) -> Result<Layout, LoadRefusal>
+pub(crate) fn read_layout(image: &[u8]) -> Result<Layout, LoadRefusal>
     ensures { λ r. ⌜ elim r [ Ok l ↦ Complete (now (image .entry)) l | Err e ↦ Refused (now (image .entry)) (number-of (e .refusal)) (e .at) ] ⌝ }
 {
     let mut layout = Layout {

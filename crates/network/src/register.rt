@@ -18,14 +18,14 @@ pub struct Circuit {
 
 impl Circuit {
     // Whether an end is no place, or both ends are equal.
-    pub fn bad_ends(self, places: u16) -> bool
+    pub(crate) fn bad_ends(self, places: u16) -> bool
         ensures { λ r. ⌜ Decides r (BadEnds places self) ⌝ }
     {
         self.from >= places || self.to >= places || self.from == self.to
     }
 
     // Whether bandwidth or cost is out of its bounds.
-    pub fn bad_figures(self) -> bool
+    pub(crate) fn bad_figures(self) -> bool
         ensures { λ r. ⌜ Decides r (BadFigures self) ⌝ }
     {
         self.bandwidth < 1 || self.bandwidth > 64_000_000 || self.cost > 1_000_000

@@ -1,6 +1,7 @@
 use mathlib.Core.Path.{sym, _∙_}
 use native.Mathlib.Omega.{arith}
-use Rattle.network.proofs.Holding.{circuit-count, circuit-read}
+use Rattle.network.specs.Held.{circuit-count}
+use Rattle.network.proofs.Holding.{circuit-read}
 use Rattle.network.proofs.image.ImageRegisterRegister.circuit.Needs as need
 
 pub returns-then-number-self : need.returns-then-number-self

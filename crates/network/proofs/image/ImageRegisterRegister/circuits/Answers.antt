@@ -1,5 +1,5 @@
 use mathlib.Core.Path.{sym}
-use Rattle.network.proofs.Holding.{circuit-count}
+use Rattle.network.specs.Held.{circuit-count}
 use Rattle.network.proofs.image.ImageRegisterRegister.circuits.Needs as need
 
 pub returns : need.returns
