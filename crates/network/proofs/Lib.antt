@@ -9,6 +9,7 @@ pub mod Offsets
 pub mod Readings
 pub mod Steps
 pub mod Tables
+pub mod Telling
 pub mod Total
 pub mod Views
 pub mod Walk

@@ -27,6 +27,14 @@ pub record Loaded (bytes : List ℕ) (n : Network) : Type 0 where
   pub image : Image bytes names circuits
   pub is : n ≡ record { places = length names; circuits = circuits }
 
+-- the place of a number has that name in the image that the bytes are
+pub record Named (bytes : List ℕ) (number : ℕ) (name : List ℕ) : Type 0 where
+  pub names : List (List ℕ)
+  pub circuits : List Circuit
+  pub image : Image bytes names circuits
+  pub there : number < length names
+  pub is : name ≡ getD names number []
+
 -- bytes are an image of given names and circuits in one way at most
 each-prop : {A : Type 0} (P : A → Type 0) → ((x : A) (p q : P x) → p ≡ q) → (xs : List A) (p q : Each P xs) → p ≡ q
 each-prop P f [] p q = Unit-prop p q

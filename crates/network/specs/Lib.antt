@@ -5,6 +5,7 @@ pub mod Image
 pub mod Layout
 pub mod MainRoute
 pub mod Network
+pub mod Reading
 pub mod Routes
 pub mod Table
 pub mod Refusals

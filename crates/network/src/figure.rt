@@ -1,9 +1,9 @@
-// Figures and circuits as an image writes them: the high byte first.
+// Figures, circuits and names as an image writes them; figures have the high byte first.
 ghost use mathlib.Core.Path.{_≡_};
 ghost use Prim.Native.Nat.{ℕ, _+_, _<_, _≤_};
 ghost use lib.ListN.{length, getD};
 ghost use Rattle.network.specs.Image.{at16, at32};
-ghost use Rattle.network.specs.Layout.{circuit-from};
+ghost use Rattle.network.specs.Layout.{after-place, circuit-from, name-from};
 use super::register::Circuit;
 
 pub(crate) fn read16(image: &[u8], at: usize) -> u16
@@ -38,4 +38,14 @@ pub(crate) fn read_circuit(image: &[u8], at: usize) -> Circuit
         bandwidth,
         cost,
     }
+}
+
+// The name of the place whose record begins at `at`, lent from where it stands.
+pub(crate) fn read_name(image: &[u8], at: usize) -> &[u8]
+    requires { ⌜ after-place (now image) at ≤ length (now image) ⌝ }
+    ensures is { λ r. ⌜ now r ≡ name-from (now (image .entry)) at ⌝ }
+    ensures size { λ r. ⌜ at + (3 + length (now r)) ≡ after-place (now (image .entry)) at ⌝ }
+{
+    let size = image[at + 2] as usize;
+    &image[at + 3..at + 3 + size]
 }

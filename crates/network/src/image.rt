@@ -2,18 +2,21 @@
 ghost use mathlib.Core.Path.{_≡_};
 ghost use mathlib.Core.Bool.{true};
 ghost use mathlib.Core.List.{List, []};
-ghost use Prim.Native.Nat.{ℕ};
+ghost use Prim.Native.Nat.{ℕ, _≤_};
 ghost use Rattle.std.specs.Results.{isOk};
 ghost use Rattle.std.specs.declared.option.Option.the-variants.{Some, None};
 ghost use Rattle.std.specs.declared.result.Result.the-variants.{Ok, Err};
 ghost use Rattle.network.specs.Claims.{OneReading, RefusedNoImage, OneRefusal, ImageOrRefused};
-ghost use Rattle.network.specs.Held.{Held, Loaded, proper-held};
+ghost use Rattle.network.specs.Held.{Held, Loaded, Named, proper-held};
 ghost use Rattle.network.specs.Image.{Image, Refused};
 ghost use Rattle.network.specs.Layout.{network-in};
+ghost use Rattle.network.specs.Reading.{Tells, told-after};
 ghost use Rattle.network.specs.Refusals.{number-of};
 use super::figure::read_circuit;
+use super::figure::read_name;
 use super::layout::Layout;
 use super::layout::read_layout;
+use super::record::Records;
 use super::refusal::LoadRefusal;
 use super::register::Circuit;
 use super::register::Register;
@@ -51,6 +54,28 @@ impl<'a> ImageRegister<'a> {
         let layout = read_layout(image)?;
         *self = ImageRegister { image, layout };
         Ok(())
+    }
+
+    // The name of a place, lent from where it stands in the image, or nothing where there is no place of that number.
+    pub fn name(&self, number: u16) -> Option<&'a [u8]>
+        ensures { λ r. ⌜ elim r [ None ↦ network-in (now (now (self .entry) .image)) (now (self .entry) .layout) .places ≤ number | Some name ↦ Named (now (now (self .entry) .image)) number (now name) ] ⌝ }
+    {
+        if number >= self.layout.places {
+            return None;
+        }
+        let mut at = 0;
+        for i in 0..number {
+            at += 3 + self.image[at + 2] as usize;
+        }
+        Some(read_name(self.image, at))
+    }
+
+    // The records of the image in turn: the places, the circuits, and last the end.
+    pub fn records(&self) -> Records<'a>
+        ensures lent { λ r. ⌜ r .image ≡ now (self .entry) .image ⌝ }
+        ensures all { λ r. ⌜ Tells (now (now (self .entry) .image)) (told-after (now (r .image)) (r .layout) (r .given)) ⌝ }
+    {
+        Records::new(self.image, self.layout)
     }
 }
 

@@ -2,6 +2,7 @@
 mod figure;
 mod image;
 mod layout;
+mod record;
 mod refusal;
 mod register;
 mod route;
@@ -10,6 +11,9 @@ mod table;
 pub use image::ImageRegister;
 pub use image::ImageRegisterRegister;
 pub use image::image_stands;
+pub use record::Record;
+pub use record::Records;
+pub use record::RecordsIterator;
 pub use refusal::LoadRefusal;
 pub use refusal::LoadRefusalDebug;
 pub use refusal::LoadRefusalDisplay;
