@@ -72,3 +72,41 @@ module _ (g : List Arc) (e : Arc → ℕ) where
       wide = ap length ef ∙ length-set first here c ∙ old .wide;
       long = ap length en ∙ length-set next c (getD first here 0) ∙ old .long;
     }
+
+-- P holds of the arcs with the end p that are numbered below c, and c, where it is an arc, is one of them too
+pub record Walked (g : List Arc) (e : Arc → ℕ) (p : ℕ) (P : ℕ → Type 0) (c : ℕ) : Type 0 where
+  pub on : c < length g → e (arc g c) ≡ p
+  pub dealt : (d : ℕ) → d < c → d < length g → e (arc g d) ≡ p → P d
+
+module _ (g : List Arc) (e : Arc → ℕ) (first next : List ℕ) (linked : Linked g e 0 first next) (p : ℕ) (P : ℕ → Type 0) where
+  pub walked-none : p < 128 → Walked g e p P (getD first p 0)
+  walked-none l =
+      let f = linked .starts p l in
+      record { on = f .on; dealt = λ d h k at. absurd (f .gap d (omega arith) h k at) }
+
+  follows : (c : ℕ) → c < length g → e (arc g c) ≡ p → Following g e p (c + 1) (getD next c 0)
+  follows c l at = subst (λ q. Following g e q (c + 1) (getD next c 0)) at (linked .goes-on c (omega arith) l)
+
+  -- the numbers rise along a chain
+  pub onward : (c : ℕ) → c < length g → c < getD next c 0
+  onward c l = omega (arith, linked .goes-on c (omega arith) l .after)
+
+  -- one arc on; what held of the arcs before still holds
+  pub walked-more : (Q : ℕ → Type 0) (c : ℕ) → c < length g → Walked g e p Q c → ((d : ℕ) → Q d → P d) → (e (arc g c) ≡ p → P c) → Walked g e p P (getD next c 0)
+  walked-more Q c l w still here =
+      let f = follows c l (w .on l) in
+      record {
+        on = f .on;
+        dealt = λ d h k at.
+            ⊎-elim
+            (λ (low : d < c). still d (w .dealt d low k at))
+            (λ (high : c ≤ d).
+            ⊎-elim
+            (λ (same : d ≡ c). subst P (sym same) (here (w .on l)))
+            (λ (apart : d ≡ c → ⊥). absurd (f .gap d (omega (arith, apart)) h k at))
+            (cases-eq d c))
+            (cases-lt d c);
+      }
+
+  pub walked-all : (c : ℕ) → length g ≤ c → Walked g e p P c → (d : ℕ) → d < length g → e (arc g d) ≡ p → P d
+  walked-all c past w d l at = w .dealt d (omega arith) l at

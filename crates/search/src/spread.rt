@@ -1,0 +1,98 @@
+// The places that a search has seen, and how it spreads from them.
+ghost use mathlib.Core.Path.{_≡_};
+ghost use Prim.Native.Nat.{ℕ, _+_, _<_, _≤_};
+ghost use lib.ListN.{length, getD, set, replicate};
+ghost use Rattle.search.specs.Graph.{Proper};
+ghost use Rattle.search.specs.Links.{By-start, By-end};
+ghost use Rattle.search.specs.Trees.{Never};
+ghost use Rattle.search.specs.Rolls.{Is-seen, Roll, Noted, More, Unused, Spent-forth, Spent-back};
+use crate::Arc;
+use crate::MAX_PLACES;
+use crate::index::Chains;
+use crate::index::Index;
+
+// The places seen so far stand in `order`, the first `count` entries. The rank of a place is where it stands there, from 1
+// on; the rank 0 says that it was not seen. `via` has the arc by which it was seen.
+#[derive(Drop)]
+pub(crate) struct Seen {
+    pub(crate) count: usize,
+    pub(crate) rank: [u8; MAX_PLACES],
+    pub(crate) via: [u16; MAX_PLACES],
+    pub(crate) order: [u8; MAX_PLACES],
+}
+
+impl Seen {
+    pub(crate) fn new(root: usize) -> Seen
+        requires { ⌜ root < 128 ⌝ }
+        ensures count { λ s. ⌜ s .count ≡ 1 ⌝ }
+        ensures rank { λ s. ⌜ s .rank ≡ set (replicate 128 0) root 1 ⌝ }
+        ensures via { λ s. ⌜ s .via ≡ replicate 128 0 ⌝ }
+        ensures order { λ s. ⌜ s .order ≡ set (replicate 128 0) 0 root ⌝ }
+    {
+        let mut rank = [0; MAX_PLACES];
+        let mut order = [0; MAX_PLACES];
+        rank[root] = 1;
+        order[0] = root as u8;
+        Seen {
+            count: 1,
+            rank,
+            via: [0; MAX_PLACES],
+            order,
+        }
+    }
+
+    // Notes a place as seen by an arc, unless it was seen before.
+    fn see(&mut self, place: usize, c: usize)
+        requires place { ⌜ place < 128 ⌝ }
+        requires arc { ⌜ c < 384 ⌝ }
+        requires roll { ⌜ Roll (now self) ⌝ }
+        ensures { λ _. ⌜ Noted (now (self .entry)) (now (self .exit)) place c ⌝ }
+    {
+        if self.rank[place] == 0 {
+            self.order[self.count] = place as u8;
+            self.count += 1;
+            self.rank[place] = self.count as u8;
+            self.via[place] = c as u16;
+        }
+    }
+
+    // Sees the places to which usable arcs that carry nothing lead from a seen place.
+    pub(crate) fn go_forth(&mut self, arcs: &[Arc], out: &Chains, flow: &[u8], place: usize)
+        requires proper { ⌜ Proper (now arcs) 128 ⌝ }
+        requires out { ⌜ By-start (now arcs) (now out .first) (now out .next) ⌝ }
+        requires flow { ⌜ length (now flow) ≡ 384 ⌝ }
+        requires roll { ⌜ Roll (now self) ⌝ }
+        requires place { ⌜ place < 128 ⌝ }
+        requires seen { ⌜ Is-seen (now self) place ⌝ }
+        ensures more { λ _. ⌜ More (now (arcs .entry)) (now (flow .entry)) (Unused (now (arcs .entry)) (now (flow .entry))) (now (self .entry)) (now (self .exit)) ⌝ }
+        ensures spent { λ _. ⌜ Spent-forth (now (arcs .entry)) (now (flow .entry)) (now (self .exit)) place ⌝ }
+    {
+        let mut c = out.first[place] as usize;
+        while c < arcs.len() {
+            if arcs[c].lanes > 0 && flow[c] == 0 {
+                self.see(arcs[c].to as usize, c);
+            }
+            c = out.next[c] as usize;
+        }
+    }
+
+    // Sees the places from which arcs bring something to a seen place.
+    pub(crate) fn go_back(&mut self, arcs: &[Arc], into: &Chains, flow: &[u8], place: usize)
+        requires proper { ⌜ Proper (now arcs) 128 ⌝ }
+        requires into { ⌜ By-end (now arcs) (now into .first) (now into .next) ⌝ }
+        requires flow { ⌜ length (now flow) ≡ 384 ⌝ }
+        requires roll { ⌜ Roll (now self) ⌝ }
+        requires place { ⌜ place < 128 ⌝ }
+        requires seen { ⌜ Is-seen (now self) place ⌝ }
+        ensures more { λ _. ⌜ More (now (arcs .entry)) (now (flow .entry)) Never (now (self .entry)) (now (self .exit)) ⌝ }
+        ensures spent { λ _. ⌜ Spent-back (now (arcs .entry)) (now (flow .entry)) (now (self .exit)) place ⌝ }
+    {
+        let mut c = into.first[place] as usize;
+        while c < arcs.len() {
+            if flow[c] > 0 {
+                self.see(arcs[c].from as usize, c);
+            }
+            c = into.next[c] as usize;
+        }
+    }
+}
