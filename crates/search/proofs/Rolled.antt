@@ -11,7 +11,8 @@ use Rattle.search.specs.declared.Arc.{Arc}
 use Rattle.search.specs.declared.spread.Seen.{Seen}
 use Rattle.search.specs.Graph.{arc}
 use Rattle.search.specs.Trees.{zeros, Forth, Back, Step, Tree}
-use Rattle.search.specs.Rolls.{Is-seen, Roll, Noted, More}
+use Rattle.search.specs.Rolls.{Is-seen, Roll, Noted, More, Of-first}
+use Rattle.search.proofs.Walks.{within}
 use Rattle.search.proofs.Growth.{zeros-set, zeros-none, getD-none}
 
 -- a step stands where the places that it rests on keep their ranks
@@ -35,7 +36,7 @@ step-kept g f F F′ rank rank′ d q allows kept h s = record {
 }
 
 -- a place that is not seen can be put on the roll
-module _ (s : Seen) (p : ℕ) (roll : Roll s) (new : getD (s .rank) p 0 ≡ 0) (within : p < 128) where
+module _ (s : Seen) (p : ℕ) (roll : Roll s) (new : getD (s .rank) p 0 ≡ 0) (place : p < 128) where
   pub room : s .count < 128
   room = omega (arith, roll .counted, zeros-set (s .rank) p 1 (omega (arith, roll .rank-long)) new (omega arith))
 
@@ -100,17 +101,36 @@ module _ (s : Seen) (p : ℕ) (roll : Roll s) (new : getD (s .rank) p 0 ≡ 0) (
       kept = λ q h. (there q (other q h), via-there q (other q h));
       new = λ q z h.
           ⊎-elim
-          (λ (e : q ≡ p). (e, ap (λ i. getD (t .via) i 0) e ∙ via-here, omega (arith, ap (λ i. getD (t .rank) i 0) e, here)))
+          (λ (e : q ≡ p). (e, ap (λ i. getD (t .via) i 0) e ∙ via-here))
           (λ (ne : q ≡ p → ⊥). absurd (omega (arith, z, h, there q ne)))
           (cases-eq q p);
+      later = λ q z h.
+          ⊎-elim
+          (λ (e : q ≡ p). omega (arith, ap (λ i. getD (t .rank) i 0) e, here))
+          (λ (ne : q ≡ p → ⊥). absurd (omega (arith, z, h, there q ne)))
+          (cases-eq q p);
+      rises = omega (arith, en);
     }
 
 pub noted-old : (s : Seen) (p c : ℕ) → Roll s → Is-seen s p → Noted s s p c
-noted-old s p c roll seen = record { roll = roll; seen = seen; kept = λ q h. (refl, refl); new = λ q z h. absurd (omega (arith, z, h)) }
+noted-old s p c roll seen = record {
+  roll = roll;
+  seen = seen;
+  kept = λ q h. (refl, refl);
+  new = λ q z h. absurd (omega (arith, z, h));
+  later = λ q z h. absurd (omega (arith, z, h));
+  rises = omega arith;
+}
 
 module _ (g : List Arc) (f : List ℕ) (F : ℕ → Type 0) where
   pub more-none : (s : Seen) → Roll s → More g f F s s
-  more-none s roll = record { roll = roll; kept = λ p h. (refl, refl); new = λ p z h. absurd (omega (arith, z, h)) }
+  more-none s roll = record {
+    roll = roll;
+    kept = λ p h. (refl, refl);
+    new = λ p z h. absurd (omega (arith, z, h));
+    later = λ p z h. absurd (omega (arith, z, h));
+    rises = omega arith;
+  }
 
   -- what is seen stays seen
   pub stays : (s t : Seen) → More g f F s t → (p : ℕ) → Is-seen s p → Is-seen t p
@@ -129,6 +149,12 @@ module _ (g : List Arc) (f : List ℕ) (F : ℕ → Type 0) where
         subst (λ d. Step g f F (u .rank) d p) (sym (n .kept p seen .1)) (step-kept g f F F (t .rank) (u .rank) (getD (t .via) p 0) p (λ x. x) (λ i l. n .kept i l .0) seen (m .new p z seen)))
         (λ (low : getD (t .rank) p 0 ≤ 0). step-kept g f F′ F (u .rank) (u .rank) (getD (u .via) p 0) p (allows _) (λ i l. refl) h (n .new p (omega arith) h))
         (cases-lt 0 (getD (t .rank) p 0));
+    later = λ p z h.
+        ⊎-elim
+        (λ (seen : Is-seen t p). omega (arith, m .later p z seen, n .kept p seen .0))
+        (λ (low : getD (t .rank) p 0 ≤ 0). omega (arith, m .rises, n .later p (omega arith) h))
+        (cases-lt 0 (getD (t .rank) p 0));
+    rises = omega (arith, m .rises, n .rises);
   }
 
   module _ (s t : Seen) (p c : ℕ) (roll : Roll s) (noted : Noted s t p c) (is : c < length g) where
@@ -140,8 +166,10 @@ module _ (g : List Arc) (f : List ℕ) (F : ℕ → Type 0) where
       new = λ q z h.
           let n = noted .new q z h in
           let same = noted .kept (arc g c .from) seen .0 in
-          let way : Forth g F (t .rank) c q = record { at = at ∙ sym (n .0); free = free; seen = omega (arith, seen, same); lower = omega (arith, same, n .2, roll .below (arc g c .from)) } in
+          let way : Forth g F (t .rank) c q = record { at = at ∙ sym (n .0); free = free; seen = omega (arith, seen, same); lower = omega (arith, same, noted .later q z h, roll .below (arc g c .from)) } in
           subst (λ d. Step g f F (t .rank) d q) (sym (n .1)) (record { is = is; way = inl way });
+      later = noted .later;
+      rises = noted .rises;
     }
 
     -- back along an arc from p to a place that is seen
@@ -152,8 +180,10 @@ module _ (g : List Arc) (f : List ℕ) (F : ℕ → Type 0) where
       new = λ q z h.
           let n = noted .new q z h in
           let same = noted .kept (arc g c .to) seen .0 in
-          let way : Back g f (t .rank) c q = record { at = at ∙ sym (n .0); carries = carries; seen = omega (arith, seen, same); lower = omega (arith, same, n .2, roll .below (arc g c .to)) } in
+          let way : Back g f (t .rank) c q = record { at = at ∙ sym (n .0); carries = carries; seen = omega (arith, seen, same); lower = omega (arith, same, noted .later q z h, roll .below (arc g c .to)) } in
           subst (λ d. Step g f F (t .rank) d q) (sym (n .1)) (record { is = is; way = inr way });
+      later = noted .later;
+      rises = noted .rises;
     }
 
   -- the tree with the new places
@@ -169,3 +199,34 @@ module _ (g : List Arc) (f : List ℕ) (F : ℕ → Type 0) where
     few = λ p. omega (arith, more .roll .below p, more .roll .counted);
     long = more .roll .rank-long;
   }
+
+-- what stands on the roll is seen, and a place
+pub on-roll : (s : Seen) (i : ℕ) → Roll s → i < s .count → Is-seen s (getD (s .order) i 0) × (getD (s .order) i 0 < 128)
+on-roll s i roll l =
+    let seen : Is-seen s (getD (s .order) i 0) = omega (arith, roll .listed i l) in
+    (seen, omega (arith, within (s .rank) (getD (s .order) i 0) seen, roll .rank-long))
+
+-- what is known of the first places of the roll
+module _ (P : ℕ → Type 0) where
+  pub first-none : (s : Seen) → Of-first 0 s P
+  first-none s p h low = absurd (omega (arith, h, low))
+
+  pub first-all : (s : Seen) (n : ℕ) → Roll s → s .count ≤ n → Of-first n s P → (p : ℕ) → Is-seen s p → P p
+  first-all s n roll all first p h = first p h (omega (arith, roll .below p))
+
+  pub first-more : (s : Seen) (n : ℕ) → Roll s → Of-first n s P → P (getD (s .order) n 0) → Of-first (n + 1) s P
+  first-more s n roll first here p h low =
+      ⊎-elim
+      (λ (m : n < getD (s .rank) p 0).
+      let at : getD (s .rank) p 0 - 1 ≡ n = omega arith in
+      subst P (ap (λ i. getD (s .order) i 0) (sym at) ∙ roll .placed p h) here)
+      (λ (l : getD (s .rank) p 0 ≤ n). first p h l)
+      (cases-lt n (getD (s .rank) p 0))
+
+  -- they stay the first
+  pub first-kept : (g : List Arc) (f : List ℕ) (F Q : ℕ → Type 0) (s t : Seen) (n : ℕ) → n ≤ s .count → More g f F s t → ((p : ℕ) → Q p → P p) → Of-first n s Q → Of-first n t P
+  first-kept g f F Q s t n few more still first p h low =
+      ⊎-elim
+      (λ (seen : Is-seen s p). still p (first p seen (omega (arith, low, more .kept p seen .0))))
+      (λ (z : getD (s .rank) p 0 ≤ 0). absurd (omega (arith, few, low, more .later p (omega arith) h)))
+      (cases-lt 0 (getD (s .rank) p 0))

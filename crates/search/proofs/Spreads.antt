@@ -9,7 +9,7 @@ use Rattle.search.specs.declared.spread.Seen.{Seen}
 use Rattle.search.specs.Graph.{arc}
 use Rattle.search.specs.Links.{By-start, By-end}
 use Rattle.search.specs.Trees.{Never}
-use Rattle.search.specs.Rolls.{Is-seen, Roll, Noted, More, Unused, Spent-forth, Spent-back}
+use Rattle.search.specs.Rolls.{Is-seen, Roll, Noted, More, Unused, Spent-forth, Spent-back, Passed}
 use Rattle.search.proofs.Chained.{Walked, walked-none, walked-more, walked-all}
 use Rattle.search.proofs.Rolled.{more-none, more-more, more-forth, more-back, stays}
 
@@ -71,3 +71,19 @@ module _ (g : List Arc) (f : List ℕ) (first next : List ℕ) (linked : By-end 
 
   pub back-all : (s : Seen) (c : ℕ) → length g ≤ c → Back-to g f s0 s p c → Spent-back g f s p
   back-all s c past old = walked-all g _ first next linked p _ c past (old .walked)
+
+-- of the arcs of p below c none leaves the seen places
+pub record Passed-to (g : List Arc) (s : Seen) (p c : ℕ) : Type 0 where
+  pub walked : Walked g (λ x. x .from) p (λ d. 0 < arc g d .lanes → Is-seen s (arc g d .to)) c
+
+module _ (g : List Arc) (first next : List ℕ) (linked : By-start g first next) (s : Seen) (p : ℕ) where
+  pub passed-none : p < 128 → Passed-to g s p (getD first p 0)
+  passed-none l = record { walked = walked-none g _ first next linked p _ l }
+
+  pub passed-more : (c : ℕ) → c < length g → Passed-to g s p c → (0 < arc g c .lanes → Is-seen s (arc g c .to)) → Passed-to g s p (getD next c 0)
+  passed-more c l old here = record {
+    walked = walked-more g _ first next linked p _ (λ d. 0 < arc g d .lanes → Is-seen s (arc g d .to)) c l (old .walked) (λ d h. h) (λ at. here);
+  }
+
+  pub passed-all : (c : ℕ) → length g ≤ c → Passed-to g s p c → Passed g s p
+  passed-all c past old = walked-all g _ first next linked p _ c past (old .walked)

@@ -4,6 +4,7 @@ use mathlib.Core.List.{List}
 use Prim.Native.Nat.{ℕ, _+_, _<_, _≤_}
 use lib.ListN.{length, getD}
 use Rattle.search.specs.declared.Arc.{Arc}
+use Rattle.search.specs.declared.index.Index.{Index}
 use Rattle.search.specs.Graph.{arc}
 
 -- c is the first arc numbered lo or more whose end, as e tells it, is p; where there is none, c is past all arcs
@@ -26,3 +27,8 @@ By-start g first next = Linked g (λ x. x .from) 0 first next
 -- the arcs by the place where they end
 abbrev pub By-end : List Arc → List ℕ → List ℕ → Type 0
 By-end g first next = Linked g (λ x. x .to) 0 first next
+
+-- the arcs both ways
+pub record Indexed (g : List Arc) (x : Index) : Type 0 where
+  pub out : By-start g (x .out .first) (x .out .next)
+  pub into : By-end g (x .into .first) (x .into .next)

@@ -27,14 +27,18 @@ pub record Noted (s t : Seen) (p c : ℕ) : Type 0 where
   pub roll : Roll t
   pub seen : Is-seen t p
   pub kept : (q : ℕ) → Is-seen s q → (getD (t .rank) q 0 ≡ getD (s .rank) q 0) × (getD (t .via) q 0 ≡ getD (s .via) q 0)
-  pub new : (q : ℕ) → getD (s .rank) q 0 ≡ 0 → Is-seen t q → (q ≡ p) × (getD (t .via) q 0 ≡ c) × (s .count < getD (t .rank) q 0)
+  pub new : (q : ℕ) → getD (s .rank) q 0 ≡ 0 → Is-seen t q → (q ≡ p) × (getD (t .via) q 0 ≡ c)
+  pub later : (q : ℕ) → getD (s .rank) q 0 ≡ 0 → Is-seen t q → s .count < getD (t .rank) q 0
+  pub rises : s .count ≤ t .count
 
--- the search went on from s to t: what was seen is as it was, and each new place was seen by an arc that carries
--- something, used back, or by one that F allows
+-- the search went on from s to t: what was seen is as it was, and each new place, with a higher rank, was seen by an
+-- arc that carries something, used back, or by one that F allows
 pub record More (g : List Arc) (f : List ℕ) (F : ℕ → Type 0) (s t : Seen) : Type 0 where
   pub roll : Roll t
   pub kept : (p : ℕ) → Is-seen s p → (getD (t .rank) p 0 ≡ getD (s .rank) p 0) × (getD (t .via) p 0 ≡ getD (s .via) p 0)
   pub new : (p : ℕ) → getD (s .rank) p 0 ≡ 0 → Is-seen t p → Step g f F (t .rank) (getD (t .via) p 0) p
+  pub later : (p : ℕ) → getD (s .rank) p 0 ≡ 0 → Is-seen t p → s .count < getD (t .rank) p 0
+  pub rises : s .count ≤ t .count
 
 -- a usable arc that carries nothing
 pub record Unused (g : List Arc) (f : List ℕ) (c : ℕ) : Type 0 where
@@ -52,6 +56,13 @@ Spent-back g f s p = (c : ℕ) → c < length g → arc g c .to ≡ p → 0 < ge
 -- each usable arc from p leads to a seen place
 abbrev pub Passed : List Arc → Seen → ℕ → Type 0
 Passed g s p = (c : ℕ) → c < length g → arc g c .from ≡ p → 0 < arc g c .lanes → Is-seen s (arc g c .to)
+
+-- a usable arc leads from a place that is seen to one that is not
+pub record Leaves (g : List Arc) (s : Seen) (c : ℕ) : Type 0 where
+  pub is : c < length g
+  pub usable : 0 < arc g c .lanes
+  pub seen : Is-seen s (arc g c .from)
+  pub new : getD (s .rank) (arc g c .to) 0 ≡ 0
 
 -- P holds of the first n places that were seen
 abbrev pub Of-first : ℕ → Seen → (ℕ → Type 0) → Type 0

@@ -3,7 +3,7 @@ ghost use mathlib.Core.Path.{_≡_};
 ghost use Prim.Native.Nat.{ℕ, _<_};
 ghost use lib.ListN.{length, getD, set, replicate};
 ghost use Rattle.search.specs.Graph.{Proper};
-ghost use Rattle.search.specs.Links.{By-start, By-end};
+ghost use Rattle.search.specs.Links.{Indexed};
 use crate::Arc;
 use crate::MAX_ARCS;
 use crate::MAX_PLACES;
@@ -50,8 +50,7 @@ pub(crate) struct Index {
 impl Index {
     pub(crate) fn new(arcs: &[Arc]) -> Index
         requires { ⌜ Proper (now arcs) 128 ⌝ }
-        ensures out { λ r. ⌜ By-start (now (arcs .entry)) (r .out .first) (r .out .next) ⌝ }
-        ensures into { λ r. ⌜ By-end (now (arcs .entry)) (r .into .first) (r .into .next) ⌝ }
+        ensures { λ r. ⌜ Indexed (now (arcs .entry)) r ⌝ }
     {
         let mut out = Chains::new();
         let mut into = Chains::new();

@@ -3,9 +3,10 @@ ghost use mathlib.Core.Path.{_≡_};
 ghost use Prim.Native.Nat.{ℕ, _+_, _<_, _≤_};
 ghost use lib.ListN.{length, getD, set, replicate};
 ghost use Rattle.search.specs.Graph.{Proper};
-ghost use Rattle.search.specs.Links.{By-start, By-end};
+ghost use Rattle.std.specs.Options.{Cases};
+ghost use Rattle.search.specs.Links.{By-start, By-end, Indexed};
 ghost use Rattle.search.specs.Trees.{Never};
-ghost use Rattle.search.specs.Rolls.{Is-seen, Roll, Noted, More, Unused, Spent-forth, Spent-back};
+ghost use Rattle.search.specs.Rolls.{Is-seen, Roll, Noted, More, Unused, Spent-forth, Spent-back, Passed, Leaves, Of-first};
 use crate::Arc;
 use crate::MAX_PLACES;
 use crate::index::Chains;
@@ -94,5 +95,56 @@ impl Seen {
             }
             c = into.next[c] as usize;
         }
+    }
+
+    // Sees all that can be reached from one place by an arc that carries nothing, or back by one that carries something.
+    fn scan(&mut self, arcs: &[Arc], index: &Index, flow: &[u8], place: usize)
+        requires proper { ⌜ Proper (now arcs) 128 ⌝ }
+        requires index { ⌜ Indexed (now arcs) (now index) ⌝ }
+        requires flow { ⌜ length (now flow) ≡ 384 ⌝ }
+        requires roll { ⌜ Roll (now self) ⌝ }
+        requires place { ⌜ place < 128 ⌝ }
+        requires seen { ⌜ Is-seen (now self) place ⌝ }
+        ensures more { λ _. ⌜ More (now (arcs .entry)) (now (flow .entry)) (Unused (now (arcs .entry)) (now (flow .entry))) (now (self .entry)) (now (self .exit)) ⌝ }
+        ensures forth { λ _. ⌜ Spent-forth (now (arcs .entry)) (now (flow .entry)) (now (self .exit)) place ⌝ }
+        ensures back { λ _. ⌜ Spent-back (now (arcs .entry)) (now (flow .entry)) (now (self .exit)) place ⌝ }
+    {
+        self.go_forth(arcs, &index.out, flow, place);
+        self.go_back(arcs, &index.into, flow, place);
+    }
+
+    // The first usable arc from a seen place to one that is not seen.
+    fn leaving_arc(&self, arcs: &[Arc], out: &Chains, place: usize) -> Option<usize>
+        requires proper { ⌜ Proper (now arcs) 128 ⌝ }
+        requires out { ⌜ By-start (now arcs) (now out .first) (now out .next) ⌝ }
+        requires place { ⌜ place < 128 ⌝ }
+        requires seen { ⌜ Is-seen (now self) place ⌝ }
+        ensures { λ r. ⌜ Cases r (Passed (now (arcs .entry)) (now (self .entry)) place) (λ c. Leaves (now (arcs .entry)) (now (self .entry)) c) ⌝ }
+    {
+        let mut c = out.first[place] as usize;
+        while c < arcs.len() {
+            let arc = arcs[c];
+            if arc.lanes > 0 && self.rank[arc.to as usize] == 0 {
+                return Some(c);
+            }
+            c = out.next[c] as usize;
+        }
+        None
+    }
+
+    // The first usable arc to a place that is not seen, and where in `order` it starts, from `held` on.
+    fn gate(&self, arcs: &[Arc], out: &Chains, held: usize) -> Option<(usize, usize)>
+        requires proper { ⌜ Proper (now arcs) 128 ⌝ }
+        requires out { ⌜ By-start (now arcs) (now out .first) (now out .next) ⌝ }
+        requires roll { ⌜ Roll (now self) ⌝ }
+        requires passed { ⌜ Of-first held (now self) (Passed (now arcs) (now self)) ⌝ }
+        ensures { λ r. ⌜ Cases r ((c : ℕ) → Leaves (now (arcs .entry)) (now (self .entry)) c → ⊥) (λ x. (x .0 < now (self .entry) .count) × (Of-first (x .0) (now (self .entry)) (Passed (now (arcs .entry)) (now (self .entry)))) × (Leaves (now (arcs .entry)) (now (self .entry)) (x .1))) ⌝ }
+    {
+        for i in held..self.count {
+            if let Some(c) = self.leaving_arc(arcs, out, self.order[i] as usize) {
+                return Some((i, c));
+            }
+        }
+        None
     }
 }
