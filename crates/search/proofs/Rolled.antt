@@ -13,7 +13,23 @@ use Rattle.search.specs.Graph.{arc}
 use Rattle.search.specs.Trees.{zeros, Forth, Back, Step, Tree}
 use Rattle.search.specs.Rolls.{Is-seen, Roll, Noted, More, Of-first}
 use Rattle.search.proofs.Walks.{within}
-use Rattle.search.proofs.Growth.{zeros-set, zeros-none, getD-none}
+
+zeros-set : (l : List ℕ) (i x : ℕ) → i < length l → getD l i 0 ≡ 0 → 0 < x → zeros (set l i x) + 1 ≡ zeros l
+zeros-set [] i x h e p = absurd (omega arith)
+zeros-set (zero ∷ l) zero zero h e p = absurd (omega arith)
+zeros-set (zero ∷ l) zero (suc x) h e p = omega arith
+zeros-set (suc y ∷ l) zero x h e p = absurd (omega arith)
+zeros-set (zero ∷ l) (suc i) x h e p = omega (arith, zeros-set l i x (omega arith) e p)
+zeros-set (suc y ∷ l) (suc i) x h e p = zeros-set l i x (omega arith) e p
+
+zeros-none : (n : ℕ) → zeros (replicate n 0) ≡ n
+zeros-none zero = refl
+zeros-none (suc n) = omega (arith, zeros-none n)
+
+pub getD-none : (n i : ℕ) → _≡_ {A = ℕ} (getD (replicate n 0) i 0) 0
+getD-none zero i = refl
+getD-none (suc n) zero = refl
+getD-none (suc n) (suc i) = getD-none n i
 
 -- a step stands where the places that it rests on keep their ranks
 pub step-kept : (g : List Arc) (f : List ℕ) (F F′ : ℕ → Type 0) (rank rank′ : List ℕ) (d q : ℕ) → (F d → F′ d) → ((p : ℕ) → 0 < getD rank p 0 → getD rank′ p 0 ≡ getD rank p 0) → 0 < getD rank q 0 → Step g f F rank d q → Step g f F′ rank′ d q
@@ -34,6 +50,50 @@ step-kept g f F F′ rank rank′ d q allows kept h s = record {
       }))
       (s .way);
 }
+
+-- only the root is seen
+module _ (s : Seen) (root : ℕ) (place : root < 128) (en : s .count ≡ 1) (er : s .rank ≡ set (replicate 128 0) root 1) (ev : s .via ≡ replicate 128 0) (eo : s .order ≡ set (replicate 128 0) 0 root) where
+  abbrev blank : List ℕ
+  blank = replicate 128 0
+
+  wide : length blank ≡ 128
+  wide = length-replicate {A = ℕ} 128 0
+
+  root-first : getD (s .rank) root 0 ≡ 1
+  root-first = ap (λ xs. getD xs root 0) er ∙ getD-set-same blank root 1 0 (omega (arith, wide))
+
+  alone : (p : ℕ) → (p ≡ root → ⊥) → getD (s .rank) p 0 ≡ 0
+  alone p ne = ap (λ xs. getD xs p 0) er ∙ getD-set-other blank root p 1 0 ne ∙ getD-none 128 p
+
+  root-listed : getD (s .order) 0 0 ≡ root
+  root-listed = ap (λ xs. getD xs 0 0) eo ∙ getD-set-same blank 0 root 0 (omega (arith, wide))
+
+  pub roll-new : Roll s
+  roll-new = record {
+    counted = omega (arith, en, ap zeros er, zeros-set blank root 1 (omega (arith, wide)) (getD-none 128 root) (omega arith), zeros-none 128);
+    below = λ p. ⊎-elim (λ (e : p ≡ root). omega (arith, ap (λ i. getD (s .rank) i 0) e, root-first, en)) (λ ne. omega (arith, alone p ne)) (cases-eq p root);
+    listed = λ i l.
+        let z : i ≡ 0 = omega (arith, en) in
+        ap (λ j. getD (s .rank) (getD (s .order) j 0) 0) z ∙ ap (λ q. getD (s .rank) q 0) root-listed ∙ root-first ∙ ap (λ j. j + 1) (sym z);
+    placed = λ p h.
+        ⊎-elim
+        (λ (e : p ≡ root).
+        let z : getD (s .rank) p 0 - 1 ≡ 0 = omega (arith, ap (λ i. getD (s .rank) i 0) e, root-first) in
+        ap (λ j. getD (s .order) j 0) z ∙ root-listed ∙ sym e)
+        (λ ne. absurd (omega (arith, h, alone p ne)))
+        (cases-eq p root);
+    rank-long = ap length er ∙ length-set blank root 1 ∙ wide;
+    via-long = ap length ev ∙ wide;
+    order-long = ap length eo ∙ length-set blank 0 root ∙ wide;
+  }
+
+  pub tree-new : (g : List Arc) (f : List ℕ) (F : ℕ → Type 0) → Tree g f F root (s .rank) (s .via)
+  tree-new g f F = record {
+    root-seen = omega (arith, root-first);
+    step = λ p ne h. absurd (omega (arith, h, alone p ne));
+    few = λ p. omega (arith, roll-new .below p, en);
+    long = roll-new .rank-long;
+  }
 
 -- a place that is not seen can be put on the roll
 module _ (s : Seen) (p : ℕ) (roll : Roll s) (new : getD (s .rank) p 0 ≡ 0) (place : p < 128) where

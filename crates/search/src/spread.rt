@@ -2,10 +2,11 @@
 ghost use mathlib.Core.Path.{_≡_};
 ghost use Prim.Native.Nat.{ℕ, _+_, _<_, _≤_};
 ghost use lib.ListN.{length, getD, set, replicate};
-ghost use Rattle.search.specs.Graph.{Proper};
+ghost use Rattle.search.specs.Graph.{Proper, Refused};
+ghost use Rattle.search.specs.Flows.{Carries, Sound};
 ghost use Rattle.std.specs.Options.{Cases};
 ghost use Rattle.search.specs.Links.{By-start, By-end, Indexed};
-ghost use Rattle.search.specs.Trees.{Never};
+ghost use Rattle.search.specs.Trees.{Free, Never, Reached};
 ghost use Rattle.search.specs.Rolls.{Is-seen, Roll, Noted, More, Unused, Spent-forth, Spent-back, Passed, Leaves, Of-first};
 use crate::Arc;
 use crate::MAX_PLACES;
@@ -23,7 +24,7 @@ pub(crate) struct Seen {
 }
 
 impl Seen {
-    pub(crate) fn new(root: usize) -> Seen
+    fn new(root: usize) -> Seen
         requires { ⌜ root < 128 ⌝ }
         ensures count { λ s. ⌜ s .count ≡ 1 ⌝ }
         ensures rank { λ s. ⌜ s .rank ≡ set (replicate 128 0) root 1 ⌝ }
@@ -58,7 +59,7 @@ impl Seen {
     }
 
     // Sees the places to which usable arcs that carry nothing lead from a seen place.
-    pub(crate) fn go_forth(&mut self, arcs: &[Arc], out: &Chains, flow: &[u8], place: usize)
+    fn go_forth(&mut self, arcs: &[Arc], out: &Chains, flow: &[u8], place: usize)
         requires proper { ⌜ Proper (now arcs) 128 ⌝ }
         requires out { ⌜ By-start (now arcs) (now out .first) (now out .next) ⌝ }
         requires flow { ⌜ length (now flow) ≡ 384 ⌝ }
@@ -78,7 +79,7 @@ impl Seen {
     }
 
     // Sees the places from which arcs bring something to a seen place.
-    pub(crate) fn go_back(&mut self, arcs: &[Arc], into: &Chains, flow: &[u8], place: usize)
+    fn go_back(&mut self, arcs: &[Arc], into: &Chains, flow: &[u8], place: usize)
         requires proper { ⌜ Proper (now arcs) 128 ⌝ }
         requires into { ⌜ By-end (now arcs) (now into .first) (now into .next) ⌝ }
         requires flow { ⌜ length (now flow) ≡ 384 ⌝ }
@@ -147,4 +148,61 @@ impl Seen {
         }
         None
     }
+}
+
+// Looks for a way from `from` to `to` by which one unit more can go: first all that arcs without flow lead to, or arcs with
+// flow lead back to; where that is all, on through the gate, an arc that every route needs. None: there are no two routes.
+pub(crate) fn explore(
+    arcs: &[Arc],
+    index: &Index,
+    flow: &[u8],
+    from: usize,
+    to: usize,
+) -> Option<Seen>
+    requires proper { ⌜ Proper (now arcs) 128 ⌝ }
+    requires index { ⌜ Indexed (now arcs) (now index) ⌝ }
+    requires flow { ⌜ length (now flow) ≡ 384 ⌝ }
+    requires from { ⌜ from < 128 ⌝ }
+    requires to { ⌜ to < 128 ⌝ }
+    requires sound { ⌜ ((k : ℕ) × (k ≤ 1) × Sound (now arcs) (now flow) k from to) ⌝ }
+    ensures { λ r. ⌜ Cases r (Refused (now (arcs .entry)) from to) (λ s. Reached (now (arcs .entry)) (now (flow .entry)) (Free (now (arcs .entry)) (now (flow .entry)) from to) from to (s .rank) (s .via)) ⌝ }
+{
+    let mut seen = Seen::new(from);
+    let mut done = 0;
+    let mut held = 0;
+    while seen.rank[to] == 0 {
+        if done < seen.count {
+            let place = seen.order[done] as usize;
+            seen.scan(arcs, index, flow, place);
+            done += 1;
+        } else {
+            let (start, c) = seen.gate(arcs, &index.out, held)?;
+            if arcs[c].lanes < 2 {
+                return None;
+            }
+            seen.see(arcs[c].to as usize, c);
+            held = start;
+        }
+    }
+    Some(seen)
+}
+
+// Finds the places from which the flow comes to `to`, as far back as `from`.
+pub(crate) fn gather(arcs: &[Arc], into: &Chains, flow: &[u8], from: usize, to: usize) -> Seen
+    requires proper { ⌜ Proper (now arcs) 128 ⌝ }
+    requires into { ⌜ By-end (now arcs) (now into .first) (now into .next) ⌝ }
+    requires flow { ⌜ length (now flow) ≡ 384 ⌝ }
+    requires from { ⌜ from < 128 ⌝ }
+    requires to { ⌜ to < 128 ⌝ }
+    requires carries { ⌜ ((k : ℕ) × Carries (now arcs) (now flow) (k + 1) from to) ⌝ }
+    ensures { λ s. ⌜ Reached (now (arcs .entry)) (now (flow .entry)) Never to from (s .rank) (s .via) ⌝ }
+{
+    let mut seen = Seen::new(to);
+    let mut done = 0;
+    while seen.rank[from] == 0 {
+        let place = seen.order[done] as usize;
+        seen.go_back(arcs, into, flow, place);
+        done += 1;
+    }
+    seen
 }
