@@ -1,5 +1,5 @@
 -- A search, place by place and gate by gate. Assumes nothing.
-use mathlib.Core.Path.{_≡_, refl, sym, ap, subst, _∙_}
+use mathlib.Core.Path.{_≡_, refl}
 use mathlib.Core.List.{List}
 use mathlib.Core.Logic.{_⊎_, inl, inr, ⊎-elim}
 use Prim.Native.Nat.{ℕ, _+_, _<_, _≤_}
@@ -8,10 +8,10 @@ use lib.ListN.{length, getD, set, replicate}
 use Rattle.std.proofs.shelf.Tests.{cases-lt}
 use Rattle.search.specs.declared.Arc.{Arc}
 use Rattle.search.specs.declared.spread.Seen.{Seen}
-use Rattle.search.specs.Graph.{arc, Must, Leads, Proper, Refused}
+use Rattle.search.specs.Graph.{arc, Must, Refused}
 use Rattle.search.specs.Flows.{Carries, Sound}
 use Rattle.search.specs.Trees.{Never, Free, Tree}
-use Rattle.search.specs.Rolls.{Is-seen, Roll, Noted, More, Unused, Spent-forth, Spent-back, Passed, Leaves, Of-first}
+use Rattle.search.specs.Rolls.{Roll, Noted, More, Unused, Spent-forth, Spent-back, Passed, Leaves, Of-first}
 use Rattle.search.proofs.Rolled.{roll-new, tree-new, tree-more, stays, more-forth, first-none, first-all, first-more, first-kept}
 use Rattle.search.proofs.Stuck.{brought, must, no-route}
 
@@ -119,7 +119,3 @@ module _ (g : List Arc) (f : List ℕ) where
           passed = first-kept (Passed g t) g f _ (Passed g s) s t start (omega arith) through (passed-kept s t _ through) passed;
           held-low = omega (arith, through .rises);
         }
-
-        -- the roll is longer
-        pub gate-more : s .count < t .count
-        gate-more = omega (arith, noted .later (arc g c .to) (gate .new) (noted .seen), noted .roll .below (arc g c .to))

@@ -6,7 +6,7 @@ use lib.ListN.{length, getD}
 use Rattle.search.specs.declared.Arc.{Arc}
 use Rattle.search.specs.declared.spread.Seen.{Seen}
 use Rattle.search.specs.Graph.{arc}
-use Rattle.search.specs.Trees.{zeros, Step, Tree}
+use Rattle.search.specs.Trees.{zeros, Step}
 
 -- place p is seen
 abbrev pub Is-seen : Seen → ℕ → Type 0

@@ -1,7 +1,7 @@
 // Which arcs start at a place and which end there, so that a search need not look at all arcs for each place.
 ghost use mathlib.Core.Path.{_≡_};
-ghost use Prim.Native.Nat.{ℕ, _<_};
-ghost use lib.ListN.{length, getD, set, replicate};
+ghost use Prim.Native.Nat.{_<_};
+ghost use lib.ListN.{getD, set, replicate};
 ghost use Rattle.search.specs.Graph.{Proper};
 ghost use Rattle.search.specs.Links.{Indexed};
 use crate::Arc;

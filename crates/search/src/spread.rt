@@ -1,7 +1,7 @@
 // The places that a search has seen, and how it spreads from them.
 ghost use mathlib.Core.Path.{_≡_};
 ghost use Prim.Native.Nat.{ℕ, _+_, _<_, _≤_};
-ghost use lib.ListN.{length, getD, set, replicate};
+ghost use lib.ListN.{length, set, replicate};
 ghost use Rattle.search.specs.Graph.{Proper, Refused};
 ghost use Rattle.search.specs.Flows.{Carries, Sound};
 ghost use Rattle.std.specs.Options.{Cases};
@@ -168,6 +168,7 @@ pub(crate) fn explore(
     ensures { λ r. ⌜ Cases r (Refused (now (arcs .entry)) from to) (λ s. Reached (now (arcs .entry)) (now (flow .entry)) (Free (now (arcs .entry)) (now (flow .entry)) from to) from to (s .rank) (s .via)) ⌝ }
 {
     let mut seen = Seen::new(from);
+    // Of the places in `order`, how many were scanned, and how many have no gate any more.
     let mut done = 0;
     let mut held = 0;
     while seen.rank[to] == 0 {

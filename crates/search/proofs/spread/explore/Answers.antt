@@ -2,8 +2,8 @@ use mathlib.Core.Logic.{inr}
 use Prim.Native.Nat.{_≤_}
 use native.Mathlib.Omega.{arith}
 use lib.ListN.{length}
-use Rattle.search.specs.Graph.{arc, Must, Refused}
-use Rattle.search.proofs.Explores.{explored-new, explored-scan, explored-gate, needed, cut-off, gate-more}
+use Rattle.search.specs.Graph.{Refused}
+use Rattle.search.proofs.Explores.{explored-new, explored-scan, explored-gate, needed, cut-off}
 use Rattle.search.proofs.spread.explore.Needs as need
 
 pub loop-seen-holds : need.loop-seen-holds

@@ -1,4 +1,3 @@
-use native.Mathlib.Omega.{arith}
 use Rattle.search.proofs.Rolled.{on-roll}
 use Rattle.search.proofs.spread.Seen.gate.Needs as need
 
