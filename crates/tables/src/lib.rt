@@ -1,0 +1,10 @@
+// What a book keeps: the bandwidth left on each circuit, the standing feeds, and the standing notices.
+mod rows;
+mod tables;
+
+pub use rows::CircuitState;
+pub use rows::Feed;
+pub use rows::Notice;
+pub use rows::Route;
+pub use rows::Tables;
+pub use tables::marks;

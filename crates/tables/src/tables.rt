@@ -1,0 +1,55 @@
+// The tables' own calls, each by the ledger that the tables stand for.
+ghost use mathlib.Core.Path.{_≡_};
+ghost use mathlib.Core.Bool.{true, false};
+ghost use Prim.Native.Nat.{ℕ, _+_, _-_, _<_, _≤_};
+ghost use lib.ListN.{length, getD};
+ghost use Rattle.std.specs.Of.Vec.{vec-items, vec-len};
+ghost use Rattle.std.specs.declared.option.Option.the-variants.{Some, None};
+ghost use Rattle.network.specs.Routes.{uses};
+ghost use Rattle.promise.specs.Ledger.{Open};
+ghost use Rattle.tables.specs.Standing.{route-of, ledger-of, left-at};
+
+use crate::rows::MAX_CIRCUITS;
+use crate::rows::Route;
+use crate::rows::Tables;
+
+// Which circuits a route uses.
+pub fn marks(route: &Route) -> [bool; MAX_CIRCUITS]
+    ensures { λ r. ⌜ ((c : ℕ) → c < 384 → getD r c false ≡ uses c (route-of (now (route .entry)))) ⌝ }
+{
+    let mut marks = [false; MAX_CIRCUITS];
+    for i in 0..route.length {
+        let c = route.circuits[i] as usize;
+        if c < MAX_CIRCUITS {
+            marks[c] = true;
+        }
+    }
+    marks
+}
+
+impl Tables {
+    // The bandwidth left on a circuit, or nothing where there is none of that number.
+    pub fn left(&self, circuit: u32) -> Option<u32>
+        ensures { λ r. ⌜ elim r [ None ↦ vec-len (now (self .entry) .circuits) ≤ circuit | Some left ↦ (circuit < vec-len (now (self .entry) .circuits)) × (left ≡ left-at (now (self .entry)) circuit) ] ⌝ }
+    {
+        if circuit as usize >= self.circuits.len() {
+            return None;
+        }
+        Some(self.circuits[circuit as usize].left)
+    }
+
+    // Which circuits a standing notice names.
+    pub fn closed(&self) -> [bool; MAX_CIRCUITS]
+        ensures no { λ r. ⌜ ((c : ℕ) → c < 384 → getD r c false ≡ false → Open (ledger-of (now (self .entry))) c) ⌝ }
+        ensures yes { λ r. ⌜ ((c : ℕ) → c < 384 → getD r c false ≡ true → Open (ledger-of (now (self .entry))) c → ⊥) ⌝ }
+    {
+        let mut closed = [false; MAX_CIRCUITS];
+        for notice in self.notices.iter() {
+            let c = notice.circuit as usize;
+            if c < MAX_CIRCUITS {
+                closed[c] = true;
+            }
+        }
+        closed
+    }
+}
