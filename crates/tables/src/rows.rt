@@ -1,7 +1,6 @@
 // The rows of the tables, and the tables themselves.
 ghost use Prim.Native.Nat.{_≤_};
 ghost use Rattle.std.specs.Of.Vec.{vec-len, vec-cap};
-
 use promise::Mode;
 
 // No route is longer: a network has at most 128 places, and a route visits none twice.

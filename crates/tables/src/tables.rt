@@ -8,7 +8,6 @@ ghost use Rattle.std.specs.declared.option.Option.the-variants.{Some, None};
 ghost use Rattle.network.specs.Routes.{uses};
 ghost use Rattle.promise.specs.Ledger.{Open};
 ghost use Rattle.tables.specs.Standing.{route-of, ledger-of, left-at};
-
 use crate::rows::MAX_CIRCUITS;
 use crate::rows::Route;
 use crate::rows::Tables;
