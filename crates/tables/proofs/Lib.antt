@@ -1,2 +1,3 @@
 pub mod Marking
+pub mod Numbers
 pub mod Opening

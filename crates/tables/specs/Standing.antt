@@ -6,6 +6,7 @@ use Prim.Native.Nat.{ℕ, _+_, _<_, _≤_}
 use lib.ListN.{length, getD, take}
 use Rattle.std.specs.Of.Vec.{vec-items, vec-len}
 use Rattle.network.specs.Network.{Network, circuit}
+use Rattle.promise.specs.declared.Mode.the-variants.{OnePlusOne}
 use Rattle.promise.specs.Ledger as ledger
 use Rattle.promise.specs.Ledger.{Ledger, taken}
 use Rattle.promise.specs.Promise.{Stands, feed-number, notice-number}
@@ -30,6 +31,20 @@ notice-of x = record { number = x .number; circuit = x .circuit }
 -- the ledger that the tables stand for
 abbrev pub ledger-of : Tables → Ledger
 ledger-of t = record { feeds = map feed-of (vec-items (t .feeds)); notices = map notice-of (vec-items (t .notices)) }
+
+abbrev pub no-feed : ledger.Feed
+no-feed = record { number = 0; from = 0; to = 0; rate = 0; mode = OnePlusOne; first = []; second = [] }
+
+abbrev pub no-notice : ledger.Notice
+no-notice = record { number = 0; circuit = 0 }
+
+-- the standing feed at a place of the list
+abbrev pub feed-at : Tables → ℕ → ledger.Feed
+feed-at t i = getD (ledger-of t .feeds) i no-feed
+
+-- the standing notice at a place of the list
+abbrev pub notice-at : Tables → ℕ → ledger.Notice
+notice-at t i = getD (ledger-of t .notices) i no-notice
 
 abbrev pub idle : CircuitState
 idle = record { left = 0 }

@@ -1,7 +1,12 @@
 // What a book keeps: the bandwidth left on each circuit, the standing feeds, and the standing notices.
+mod numbered;
 mod rows;
 mod tables;
 
+pub use numbered::FeedNumbered;
+pub use numbered::NoticeNumbered;
+pub use numbered::Numbered;
+pub use numbered::find;
 pub use rows::CircuitState;
 pub use rows::Feed;
 pub use rows::Notice;

@@ -7,7 +7,11 @@ ghost use Rattle.std.specs.Of.Vec.{vec-items, vec-len};
 ghost use Rattle.std.specs.declared.option.Option.the-variants.{Some, None};
 ghost use Rattle.network.specs.Routes.{uses};
 ghost use Rattle.promise.specs.Ledger.{Open};
-ghost use Rattle.tables.specs.Standing.{route-of, ledger-of, left-at};
+ghost use Rattle.promise.specs.Promise.{Stands, feed-number, notice-number};
+ghost use Rattle.tables.specs.Standing.{route-of, ledger-of, left-at, feed-at, notice-at};
+use crate::numbered::FeedNumbered;
+use crate::numbered::NoticeNumbered;
+use crate::numbered::find;
 use crate::rows::MAX_CIRCUITS;
 use crate::rows::Route;
 use crate::rows::Tables;
@@ -50,5 +54,18 @@ impl Tables {
             }
         }
         closed
+    }
+    // The place of the standing feed of that number, or nothing where none stands.
+    pub fn find_feed(&self, number: u32) -> Option<usize>
+        ensures { λ r. ⌜ elim r [ None ↦ (Stands feed-number number (ledger-of (now (self .entry)) .feeds) → ⊥) | Some i ↦ (i < vec-len (now (self .entry) .feeds)) × (feed-at (now (self .entry)) i .number ≡ number) × Stands feed-number number (ledger-of (now (self .entry)) .feeds) ] ⌝ }
+    {
+        find(&self.feeds, number)
+    }
+
+    // The place of the standing notice of that number, or nothing where none stands.
+    pub fn find_notice(&self, number: u32) -> Option<usize>
+        ensures { λ r. ⌜ elim r [ None ↦ (Stands notice-number number (ledger-of (now (self .entry)) .notices) → ⊥) | Some i ↦ (i < vec-len (now (self .entry) .notices)) × (notice-at (now (self .entry)) i .number ≡ number) × Stands notice-number number (ledger-of (now (self .entry)) .notices) ] ⌝ }
+    {
+        find(&self.notices, number)
     }
 }
