@@ -1,11 +1,12 @@
 // The tables' own calls, each by the ledger that the tables stand for.
 ghost use mathlib.Core.Path.{_≡_};
 ghost use mathlib.Core.Bool.{true, false};
+ghost use mathlib.Core.List.{[], _∷_};
 ghost use Prim.Native.Nat.{ℕ, _+_, _-_, _<_, _≤_};
 ghost use lib.ListN.{length, getD};
 ghost use Rattle.std.specs.Of.Vec.{vec-items, vec-len};
 ghost use Rattle.std.specs.declared.option.Option.the-variants.{Some, None};
-ghost use Rattle.network.specs.Routes.{uses};
+ghost use Rattle.network.specs.Routes.{uses, times};
 ghost use Rattle.promise.specs.Ledger.{Open};
 ghost use Rattle.promise.specs.Promise.{Stands, feed-number, notice-number};
 ghost use Rattle.tables.specs.Standing.{route-of, ledger-of, left-at, feed-at, notice-at};
@@ -68,4 +69,37 @@ impl Tables {
     {
         find(&self.notices, number)
     }
+    // Whether no standing notice names the circuit.
+    pub fn is_open(&self, circuit: u32) -> bool
+        ensures yes { λ r. ⌜ (r ≡ true → Open (ledger-of (now (self .entry))) circuit) ⌝ }
+        ensures no { λ r. ⌜ (r ≡ false → Open (ledger-of (now (self .entry))) circuit → ⊥) ⌝ }
+    {
+        for notice in self.notices.iter() {
+            if notice.circuit == circuit {
+                return false;
+            }
+        }
+        true
+    }
+
+    // How many of the two routes of a standing feed use the circuit.
+    pub fn uses(&self, i: usize, circuit: u32) -> u8
+        requires { ⌜ i < vec-len (now self .feeds) ⌝ }
+        ensures { λ r. ⌜ r ≡ times circuit (feed-at (now (self .entry)) i .first ∷ feed-at (now (self .entry)) i .second ∷ []) ⌝ }
+    {
+        let feed = &self.feeds[i];
+        u8::from(on_route(&feed.first, circuit)) + u8::from(on_route(&feed.second, circuit))
+    }
+}
+
+// Whether a route uses the circuit.
+fn on_route(route: &Route, circuit: u32) -> bool
+    ensures { λ r. ⌜ r ≡ uses circuit (route-of (now (route .entry))) ⌝ }
+{
+    for i in 0..route.length {
+        if u32::from(route.circuits[i]) == circuit {
+            return true;
+        }
+    }
+    false
 }
