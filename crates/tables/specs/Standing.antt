@@ -4,6 +4,7 @@ use mathlib.Core.List.{List, [], _∷_, map}
 use mathlib.Core.Logic.{_⊎_}
 use Prim.Native.Nat.{ℕ, _+_, _<_, _≤_}
 use lib.ListN.{length, getD, take}
+use Rattle.std.specs.Changed.{with-item}
 use Rattle.std.specs.Of.Vec.{vec-items, vec-len}
 use Rattle.network.specs.Network.{Network, circuit}
 use Rattle.promise.specs.declared.Mode.the-variants.{OnePlusOne}
@@ -52,6 +53,10 @@ idle = record { left = 0 }
 -- the bandwidth left that the tables have for a circuit
 abbrev pub left-at : Tables → ℕ → ℕ
 left-at t c = getD (vec-items (t .circuits)) c idle .left
+
+-- the tables with a circuit's state changed to this
+abbrev pub with-circuit : Tables → ℕ → CircuitState → Tables
+with-circuit t c w = record { circuits = with-item (t .circuits) c w; feeds = t .feeds; notices = t .notices; «few_circuits» = t .«few_circuits»; «few_feeds» = t .«few_feeds»; «few_notices» = t .«few_notices»; «feed_room» = t .«feed_room»; «notice_room» = t .«notice_room» }
 
 -- no two records of the list have the same number
 abbrev pub Apart : {A : Type 0} → (A → ℕ) → List A → Type 0

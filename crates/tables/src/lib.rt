@@ -1,4 +1,5 @@
 // What a book keeps: the bandwidth left on each circuit, the standing feeds, and the standing notices.
+mod changes;
 mod making;
 mod numbered;
 mod rows;
