@@ -2,3 +2,4 @@ pub mod Entries
 pub mod Marking
 pub mod Numbers
 pub mod Opening
+pub mod Taking

@@ -9,7 +9,7 @@ use Rattle.std.specs.Of.Vec.{vec-items, vec-len}
 use Rattle.network.specs.Network.{Network, circuit}
 use Rattle.promise.specs.declared.Mode.the-variants.{OnePlusOne}
 use Rattle.promise.specs.Ledger as ledger
-use Rattle.promise.specs.Ledger.{Ledger, taken}
+use Rattle.promise.specs.Ledger.{Ledger, takes, taken}
 use Rattle.promise.specs.Promise.{Stands, feed-number, notice-number}
 use Rattle.tables.specs.declared.rows.Route.{Route}
 use Rattle.tables.specs.declared.rows.CircuitState.{CircuitState}
@@ -28,6 +28,10 @@ feed-of f = record { number = f .number; from = f .from; to = f .to; rate = f .r
 -- the ledger's entry for a notice
 abbrev pub notice-of : Notice → ledger.Notice
 notice-of x = record { number = x .number; circuit = x .circuit }
+
+-- what a feed takes on a circuit
+abbrev pub taken-by : ledger.Feed → ℕ → ℕ
+taken-by f c = takes (f .mode) (f .rate) (f .first) (f .second) c
 
 -- the ledger that the tables stand for
 abbrev pub ledger-of : Tables → Ledger

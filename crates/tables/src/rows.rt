@@ -33,6 +33,7 @@ pub struct Feed {
     pub mode: Mode,
     pub first: Route,
     pub second: Route,
+    ghost most_rate: { rate ≤ 1000000 },
 }
 
 #[derive(Clone, Copy)]
