@@ -2,13 +2,19 @@
 use mathlib.Core.Path.{_≡_, sym, ap, _∙_}
 use Prim.Native.Nat.{ℕ, _<_}
 use native.Mathlib.Omega.{arith}
-use lib.ListN.{getD}
+use lib.ListN.{length, getD}
 use Rattle.std.specs.Of.Vec.{vec-items, vec-len}
-use Rattle.std.proofs.shelf.Lists.{getD-map}
+use Rattle.std.proofs.shelf.Lists.{getD-map, length-map}
 use Rattle.tables.specs.declared.rows.Feed.{Feed}
 use Rattle.tables.specs.declared.rows.Notice.{Notice}
 use Rattle.tables.specs.declared.rows.Tables.{Tables}
-use Rattle.tables.specs.Standing.{feed-of, feed-at, no-feed, notice-of, notice-at, no-notice}
+use Rattle.tables.specs.Standing.{ledger-of, feed-of, feed-at, no-feed, notice-of, notice-at, no-notice}
+
+pub feeds-length : (t : Tables) → length (ledger-of t .feeds) ≡ vec-len (t .feeds)
+feeds-length t = length-map (vec-items (t .feeds)) feed-of ∙ sym (t .feeds .ok .0)
+
+pub notices-length : (t : Tables) → length (ledger-of t .notices) ≡ vec-len (t .notices)
+notices-length t = length-map (vec-items (t .notices)) notice-of ∙ sym (t .notices .ok .0)
 
 pub feed-read : (t : Tables) (i : ℕ) (x : Feed) → i < vec-len (t .feeds) → x ≡ getD (vec-items (t .feeds)) i x → feed-at t i ≡ feed-of x
 feed-read t i x h e =

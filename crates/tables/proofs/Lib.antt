@@ -1,4 +1,5 @@
 pub mod Entries
+pub mod Keeping
 pub mod Marking
 pub mod Numbers
 pub mod Opening

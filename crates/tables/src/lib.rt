@@ -1,5 +1,6 @@
 // What a book keeps: the bandwidth left on each circuit, the standing feeds, and the standing notices.
-mod changes;
+mod bandwidth;
+mod ledger;
 mod making;
 mod numbered;
 mod rows;

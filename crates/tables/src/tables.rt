@@ -1,4 +1,4 @@
-// The tables' own calls, each by the ledger that the tables stand for.
+// What the tables tell, each by the ledger that they stand for.
 ghost use mathlib.Core.Path.{_≡_};
 ghost use mathlib.Core.Bool.{true, false};
 ghost use mathlib.Core.List.{[], _∷_};
@@ -56,6 +56,7 @@ impl Tables {
         }
         closed
     }
+
     // The place of the standing feed of that number, or nothing where none stands.
     pub fn find_feed(&self, number: u32) -> Option<usize>
         ensures { λ r. ⌜ elim r [ None ↦ (Stands feed-number number (ledger-of (now (self .entry)) .feeds) → ⊥) | Some i ↦ (i < vec-len (now (self .entry) .feeds)) × (feed-at (now (self .entry)) i .number ≡ number) × Stands feed-number number (ledger-of (now (self .entry)) .feeds) ] ⌝ }
@@ -69,6 +70,7 @@ impl Tables {
     {
         find(&self.notices, number)
     }
+
     // Whether no standing notice names the circuit.
     pub fn is_open(&self, circuit: u32) -> bool
         ensures yes { λ r. ⌜ (r ≡ true → Open (ledger-of (now (self .entry))) circuit) ⌝ }

@@ -1,17 +1,17 @@
-// The tables' changes: what a feed takes and gives back, and what is added and struck out.
+// The bandwidth left on each circuit: one circuit's state lent, and what a feed takes and gives back.
 ghost use mathlib.Core.Path.{_≡_};
+ghost use mathlib.Core.List.{List};
 ghost use Prim.Native.Nat.{ℕ, _+_, _-_, _^_, _<_, _≤_};
-ghost use lib.ListN.{length, getD};
+ghost use lib.ListN.{getD};
 ghost use ghost.Atoms.{sem};
 ghost use denote.Follow.{follows};
 ghost use denote.Ref.{name};
 ghost use Rattle.std.specs.Of.Vec.{vec-items, vec-len};
-ghost use Rattle.tables.specs.contracts.rows.CircuitState.{the-row as circuit-row};
-ghost use Rattle.tables.specs.contracts.rows.Tables.{the-row as tables-row};
-ghost use Rattle.tables.specs.Standing.{ledger-of, feed-of, left-at, taken-by, idle, with-circuit};
 ghost use Rattle.network.specs.Routes.{uses};
 ghost use Rattle.promise.specs.Ledger.{takes};
-ghost use mathlib.Core.List.{List, [], _∷_};
+ghost use Rattle.tables.specs.contracts.rows.CircuitState.{the-row as circuit-row};
+ghost use Rattle.tables.specs.contracts.rows.Tables.{the-row as tables-row};
+ghost use Rattle.tables.specs.Standing.{feed-of, left-at, taken-by, idle, with-circuit};
 use crate::rows::CircuitState;
 use crate::rows::Feed;
 use crate::rows::Tables;
@@ -27,6 +27,7 @@ impl Tables {
     {
         &mut self.circuits[circuit]
     }
+
     // Takes what the feed takes on each circuit.
     pub fn take(&mut self, feed: &Feed)
         ensures left { λ _. ⌜ ((c : ℕ) → c < vec-len (now (self .entry) .circuits) → left-at (now (self .exit)) c ≡ left-at (now (self .entry)) c - taken-by (feed-of (now (feed .entry))) c) ⌝ }
