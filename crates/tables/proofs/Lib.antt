@@ -1,3 +1,4 @@
+pub mod Booking
 pub mod Entries
 pub mod Keeping
 pub mod Marking
