@@ -1,7 +1,7 @@
 -- What is added and struck out leaves the tables those of a book over the same network. Assumes nothing.
 use mathlib.Core.Path.{_≡_, refl, sym, ap, subst, _∙_}
 use mathlib.Core.List.{List, [], _∷_, _++_, map}
-use Prim.Native.Nat.{ℕ, zero, suc, _+_, _-_, _^_, _<_, _≤_}
+use Prim.Native.Nat.{ℕ, zero, suc, _+_, _-_, _<_, _≤_}
 use native.Mathlib.Omega.{arith}
 use lib.ListN.{length, getD, take, drop}
 use Rattle.std.specs.Holes.{removed}
@@ -14,6 +14,7 @@ use Rattle.promise.specs.Promise.{Stands, feed-number, notice-number}
 use Rattle.tables.specs.declared.rows.Tables.{Tables}
 use Rattle.tables.specs.Standing.{Apart, Keeps, idle, ledger-of, left-at, taken-by, feed-at, no-feed}
 use Rattle.tables.proofs.Numbers.{apart-push, apart-removed}
+use Rattle.tables.proofs.Taking.{More}
 
 pub map-removed : {A B : Type 0} (f : A → B) (xs : List A) (i : ℕ) → map f (removed xs i) ≡ removed (map f xs) i
 map-removed f [] zero = refl
@@ -46,7 +47,7 @@ module _ (n : Network) (old new : Tables) (long : vec-len (new .circuits) ≡ ve
   }
 
   pub keeps-struck : Proper n → (i : ℕ) → i < length (ledger-of old .feeds) → ledger-of new .feeds ≡ removed (ledger-of old .feeds) i → ledger-of new .notices ≡ ledger-of old .notices
-      → ((c : ℕ) → c < vec-len (old .circuits) → left-at old c + taken-by (feed-at old i) c < 2 ^ 32 → left-at new c ≡ left-at old c + taken-by (feed-at old i) c)
+      → ((c : ℕ) → c < vec-len (old .circuits) → More old (feed-at old i) c (left-at new c))
       → Keeps n new
   keeps-struck proper i here feeds notices left = record {
     long = long ∙ keeps .long;
@@ -56,7 +57,7 @@ module _ (n : Network) (old new : Tables) (long : vec-len (new .circuits) ≡ ve
         let most = proper .each c h .most-bandwidth in
         let struck = ap (λ fs. taken fs c) feeds in
         let without = taken-removed (ledger-of old .feeds) i no-feed c here in
-        omega (arith, left c within (omega arith));
+        omega (arith, left c within);
     feeds-apart = subst (Apart feed-number) (sym feeds) (apart-removed feed-number (ledger-of old .feeds) i (keeps .feeds-apart));
     notices-apart = subst (Apart notice-number) (sym notices) (keeps .notices-apart);
   }

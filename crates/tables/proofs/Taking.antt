@@ -1,7 +1,7 @@
 -- A loop over the circuits that changes what is left on each. Assumes nothing.
 use mathlib.Core.Path.{_≡_, refl, sym, ap, subst, _∙_}
 use mathlib.Core.Logic.{_≢_}
-use Prim.Native.Nat.{ℕ, _+_, _-_, _^_, _<_, _≤_}
+use Prim.Native.Nat.{ℕ, _+_, _-_, _^_, min, _<_, _≤_}
 use native.Mathlib.Omega.{arith}
 use lib.ListN.{length}
 use borrow.Author.Count.{below-more}
@@ -24,9 +24,9 @@ pub record Changed (rule : ℕ → ℕ → Type 0) (old new : Tables) (done : �
 abbrev pub Less : Tables → ledger.Feed → ℕ → ℕ → Type 0
 Less old f c left = left ≡ left-at old c - taken-by f c
 
--- what is left once the feed has given its part back, where that is a number that fits
+-- what is left once the feed has given its part back, up to the largest number that fits
 abbrev pub More : Tables → ledger.Feed → ℕ → ℕ → Type 0
-More old f c left = left-at old c + taken-by f c < 2 ^ 32 → left ≡ left-at old c + taken-by f c
+More old f c left = left ≡ min (left-at old c + taken-by f c) (2 ^ 32 - 1)
 
 module _ (rule : ℕ → ℕ → Type 0) (old : Tables) where
   pub changed-none : Changed rule old old 0

@@ -1,7 +1,7 @@
 // The bandwidth left on each circuit: one circuit's state lent, and what a feed takes and gives back.
 ghost use mathlib.Core.Path.{_≡_};
 ghost use mathlib.Core.List.{List};
-ghost use Prim.Native.Nat.{ℕ, _+_, _-_, _^_, _<_, _≤_};
+ghost use Prim.Native.Nat.{ℕ, _+_, _-_, _^_, min, _<_, _≤_};
 ghost use lib.ListN.{getD};
 ghost use ghost.Atoms.{sem};
 ghost use denote.Follow.{follows};
@@ -46,7 +46,7 @@ impl Tables {
 
     // Gives back what the feed takes on each circuit.
     pub fn give_back(&mut self, feed: &Feed)
-        ensures left { λ _. ⌜ ((c : ℕ) → c < vec-len (now (self .entry) .circuits) → left-at (now (self .entry)) c + taken-by (feed-of (now (feed .entry))) c < 2 ^ 32 → left-at (now (self .exit)) c ≡ left-at (now (self .entry)) c + taken-by (feed-of (now (feed .entry))) c) ⌝ }
+        ensures left { λ _. ⌜ ((c : ℕ) → c < vec-len (now (self .entry) .circuits) → left-at (now (self .exit)) c ≡ min (left-at (now (self .entry)) c + taken-by (feed-of (now (feed .entry))) c) (2 ^ 32 - 1)) ⌝ }
         ensures circuits { λ _. ⌜ vec-len (now (self .exit) .circuits) ≡ vec-len (now (self .entry) .circuits) ⌝ }
         ensures feeds { λ _. ⌜ now (self .exit) .feeds ≡ now (self .entry) .feeds ⌝ }
         ensures notices { λ _. ⌜ now (self .exit) .notices ≡ now (self .entry) .notices ⌝ }
@@ -54,9 +54,9 @@ impl Tables {
         let first = marks(&feed.first);
         let second = marks(&feed.second);
         for number in 0..self.circuits.len() {
-            let taken = amount(feed.mode, feed.rate, first[number], second[number]);
+            let given = amount(feed.mode, feed.rate, first[number], second[number]);
             let circuit = self.circuit_mut(number);
-            circuit.left = circuit.left.saturating_add(taken);
+            circuit.left = circuit.left.saturating_add(given);
         }
     }
 }

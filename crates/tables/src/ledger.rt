@@ -1,13 +1,13 @@
 // What is added to the standing feeds and notices, and struck out of them.
 ghost use mathlib.Core.Path.{_≡_};
 ghost use mathlib.Core.List.{[], _∷_, _++_};
-ghost use Prim.Native.Nat.{ℕ, _+_, _-_, _^_, _<_, _≤_};
+ghost use Prim.Native.Nat.{ℕ, _+_, _-_, _^_, min, _<_, _≤_};
 ghost use lib.ListN.{length};
 ghost use Rattle.std.specs.Holes.{removed};
 ghost use Rattle.std.specs.Of.Vec.{vec-len};
 ghost use Rattle.network.specs.Network.{Network, Proper};
 ghost use Rattle.promise.specs.Promise.{Stands, feed-number, notice-number, acted, release, close, reopen};
-ghost use Rattle.tables.specs.Standing.{Keeps, ledger-of, feed-of, feed-at, notice-of, notice-at, left-at, taken-by};
+ghost use Rattle.tables.specs.Standing.{Keeps, ledger-of, feed-of, feed-at, notice-at, left-at, taken-by};
 use crate::rows::Feed;
 use crate::rows::Notice;
 use crate::rows::Tables;
@@ -32,7 +32,7 @@ impl Tables {
         ensures feeds { λ _. ⌜ ledger-of (now (self .exit)) .feeds ≡ removed (ledger-of (now (self .entry)) .feeds) i ⌝ }
         ensures notices { λ _. ⌜ now (self .exit) .notices ≡ now (self .entry) .notices ⌝ }
         ensures circuits { λ _. ⌜ vec-len (now (self .exit) .circuits) ≡ vec-len (now (self .entry) .circuits) ⌝ }
-        ensures left { λ _. ⌜ ((c : ℕ) → c < vec-len (now (self .entry) .circuits) → left-at (now (self .entry)) c + taken-by (feed-at (now (self .entry)) i) c < 2 ^ 32 → left-at (now (self .exit)) c ≡ left-at (now (self .entry)) c + taken-by (feed-at (now (self .entry)) i) c) ⌝ }
+        ensures left { λ _. ⌜ ((c : ℕ) → c < vec-len (now (self .entry) .circuits) → left-at (now (self .exit)) c ≡ min (left-at (now (self .entry)) c + taken-by (feed-at (now (self .entry)) i) c) (2 ^ 32 - 1)) ⌝ }
         ensures keeps { λ _. ⌜ ((n : Network) → Proper n → Keeps n (now (self .entry)) → (ledger-of (now (self .exit)) ≡ acted (ledger-of (now (self .entry))) (release (feed-at (now (self .entry)) i .number))) × Keeps n (now (self .exit))) ⌝ }
     {
         let feed = self.feeds.remove(i);

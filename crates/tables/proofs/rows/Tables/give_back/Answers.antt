@@ -17,9 +17,9 @@ loop-number-again c =
     let so = c .loop-number .inv in
     let within : i < old .circuits .len = omega arith in
     let marked : i < 384 = omega (arith, old .«few_circuits») in
-    let taken : c .amount-taken .result ≡ taken-by f i = c .amount-taken .ensures i (f .first) (f .second) (c .marks-first .ensures i marked) (c .marks-second .ensures i marked) in
+    let taken : c .amount-given .result ≡ taken-by f i = c .amount-given .ensures i (f .first) (f .second) (c .marks-first .ensures i marked) (c .marks-second .ensures i marked) in
     let left : c .circuit-mut-circuit .result .now .left ≡ left-at old i = ap (λ (s : CircuitState). s .left) (c .circuit-mut-circuit .ensures .value) ∙ so .after i (omega arith) in
-    changed-more (More old f) old (c .loop-number .self) i (record { left = c .saturating-add-circuit .result }) within so (λ fits. omega (arith, c .saturating-add-circuit .ensures))
+    changed-more (More old f) old (c .loop-number .self) i (record { left = c .saturating-add-circuit .result }) within so (omega (arith, c .saturating-add-circuit .ensures))
 
 pub returns : need.returns
 returns c =
