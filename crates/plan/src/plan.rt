@@ -3,7 +3,6 @@ ghost use mathlib.Core.Path.{_≡_};
 ghost use Prim.Native.Nat.{_<_};
 ghost use Rattle.tables.specs.Standing.{Keeps, ledger-of};
 ghost use Rattle.plan.specs.Planned.{SafestAt};
-
 use network::Register;
 use promise::Mode;
 use scale::Scale;
