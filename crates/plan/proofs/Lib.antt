@@ -1,1 +1,3 @@
+pub mod Circuits
 pub mod Rates
+pub mod Sharing
