@@ -32,8 +32,8 @@ pub fn lanes_of(mode: Mode, rate: u32, left: u32, closed: bool) -> u8
 
 // The figures of a circuit that the register has.
 pub fn circuit_at<R: Register>(register: &R, number: u16) -> Circuit
-    requires { ⌜ number < length (R·Register .network (now register) .circuits) ⌝ }
-    ensures { λ r. ⌜ r ≡ circuit-of (R·Register .network (now (register .entry))) number ⌝ }
+    requires { ⌜ number < length (network (now register) .circuits) ⌝ }
+    ensures { λ r. ⌜ r ≡ circuit-of (network (now (register .entry))) number ⌝ }
 {
     let Some(circuit) = register.circuit(number as u32) else {
         unreachable()
@@ -50,10 +50,10 @@ fn arc_at<R: Register>(
     rate: u32,
     mode: Mode,
 ) -> Arc
-    requires within { ⌜ number < length (R·Register .network (now register) .circuits) ⌝ }
+    requires within { ⌜ number < length (network (now register) .circuits) ⌝ }
     requires free { ⌜ (closed ≡ false → Open (ledger-of (now tables)) number) ⌝ }
     requires shut { ⌜ (closed ≡ true → Open (ledger-of (now tables)) number → ⊥) ⌝ }
-    ensures { λ r. ⌜ ArcFor (R·Register .network (now (register .entry))) (now (tables .entry)) mode rate number r ⌝ }
+    ensures { λ r. ⌜ ArcFor (network (now (register .entry))) (now (tables .entry)) mode rate number r ⌝ }
 {
     let circuit = circuit_at(register, number);
     let left = tables.left(number as u32).unwrap_or(0);
@@ -66,8 +66,8 @@ fn arc_at<R: Register>(
 
 // An arc for each circuit, by its number; what stands past them means nothing.
 pub fn arcs<R: Register>(register: &R, tables: &Tables, rate: u32, mode: Mode) -> [Arc; MAX_ARCS]
-    ensures proper { λ r. ⌜ Proper (take (length (R·Register .network (now (register .entry)) .circuits)) r) (R·Register .network (now (register .entry)) .places) ⌝ }
-    ensures lanes { λ r. ⌜ (Keeps (R·Register .network (now (register .entry))) (now (tables .entry)) → Lanes (R·Register .network (now (register .entry))) (ledger-of (now (tables .entry))) mode rate (take (length (R·Register .network (now (register .entry)) .circuits)) r)) ⌝ }
+    ensures proper { λ r. ⌜ Proper (take (length (network (now (register .entry)) .circuits)) r) (network (now (register .entry)) .places) ⌝ }
+    ensures lanes { λ r. ⌜ (Keeps (network (now (register .entry))) (now (tables .entry)) → Lanes (network (now (register .entry))) (ledger-of (now (tables .entry))) mode rate (take (length (network (now (register .entry)) .circuits)) r)) ⌝ }
 {
     let closed = tables.closed();
     let mut arcs = [Arc {

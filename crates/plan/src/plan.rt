@@ -32,10 +32,10 @@ fn pair_at<R: Register>(
     rate: u32,
     mode: Mode,
 ) -> Option<(Route, Route)>
-    requires from { ⌜ from < R·Register .network (now register) .places ⌝ }
-    requires to { ⌜ to < R·Register .network (now register) .places ⌝ }
+    requires from { ⌜ from < network (now register) .places ⌝ }
+    requires to { ⌜ to < network (now register) .places ⌝ }
     requires apart { ⌜ (from ≡ to → ⊥) ⌝ }
-    ensures { λ r. ⌜ (Keeps (R·Register .network (now (register .entry))) (now (tables .entry)) → FoundAt (R·Register .network (now (register .entry))) (ledger-of (now (tables .entry))) from to mode rate r) ⌝ }
+    ensures { λ r. ⌜ (Keeps (network (now (register .entry))) (now (tables .entry)) → FoundAt (network (now (register .entry))) (ledger-of (now (tables .entry))) from to mode rate r) ⌝ }
 {
     let arcs = arcs(register, tables, rate, mode);
     let arcs = &arcs[0..register.circuits() as usize];
@@ -63,7 +63,7 @@ fn pair_at<R: Register>(
 
 // The cost of the circuits that both routes use.
 pub fn shared_cost<R: Register, S: Scale>(register: &R, first: &Route, second: &Route) -> S::Value
-    ensures { λ r. ⌜ r ≡ shared-cost (S·Scale .measure) (R·Register .network (now (register .entry))) (route-of (now (first .entry)) ∷ route-of (now (second .entry)) ∷ []) ⌝ }
+    ensures { λ r. ⌜ r ≡ shared-cost measure (network (now (register .entry))) (route-of (now (first .entry)) ∷ route-of (now (second .entry)) ∷ []) ⌝ }
 {
     let in_first = marks(first);
     let in_second = marks(second);
@@ -85,10 +85,10 @@ pub fn safest_at<R: Register, S: Scale>(
     rate: u32,
     mode: Mode,
 ) -> Option<Plan<S::Value>>
-    requires from { ⌜ from < R·Register .network (now register) .places ⌝ }
-    requires to { ⌜ to < R·Register .network (now register) .places ⌝ }
+    requires from { ⌜ from < network (now register) .places ⌝ }
+    requires to { ⌜ to < network (now register) .places ⌝ }
     requires apart { ⌜ (from ≡ to → ⊥) ⌝ }
-    ensures { λ r. ⌜ (Keeps (R·Register .network (now (register .entry))) (now (tables .entry)) → SafestAt (S·Scale .measure) (R·Register .network (now (register .entry))) (ledger-of (now (tables .entry))) from to mode rate r) ⌝ }
+    ensures { λ r. ⌜ (Keeps (network (now (register .entry))) (now (tables .entry)) → SafestAt measure (network (now (register .entry))) (ledger-of (now (tables .entry))) from to mode rate r) ⌝ }
 {
     let (first, second) = pair_at(register, tables, from, to, rate, mode)?;
     let cost = shared_cost::<R, S>(register, &first, &second);

@@ -26,10 +26,10 @@ pub fn safest_within<R: Register, S: Scale>(
     mode: Mode,
     limit: S::Value,
 ) -> Result<Plan<S::Value>, Refusal>
-    requires from { ⌜ from < R·Register .network (now register) .places ⌝ }
-    requires to { ⌜ to < R·Register .network (now register) .places ⌝ }
+    requires from { ⌜ from < network (now register) .places ⌝ }
+    requires to { ⌜ to < network (now register) .places ⌝ }
     requires apart { ⌜ (from ≡ to → ⊥) ⌝ }
-    ensures { λ r. ⌜ (Keeps (R·Register .network (now (register .entry))) (now (tables .entry)) → SafestWithin (S·Scale .measure) (R·Register .network (now (register .entry))) (ledger-of (now (tables .entry))) from to mode rate limit r) ⌝ }
+    ensures { λ r. ⌜ (Keeps (network (now (register .entry))) (now (tables .entry)) → SafestWithin measure (network (now (register .entry))) (ledger-of (now (tables .entry))) from to mode rate limit r) ⌝ }
 {
     let limit = S::held(limit);
     match safest_at::<R, S>(register, tables, from, to, rate, mode) {
@@ -54,10 +54,10 @@ pub fn widest_within<R: Register, S: Scale>(
     mode: Mode,
     limit: S::Value,
 ) -> Result<(u32, Plan<S::Value>), Refusal>
-    requires from { ⌜ from < R·Register .network (now register) .places ⌝ }
-    requires to { ⌜ to < R·Register .network (now register) .places ⌝ }
+    requires from { ⌜ from < network (now register) .places ⌝ }
+    requires to { ⌜ to < network (now register) .places ⌝ }
     requires apart { ⌜ (from ≡ to → ⊥) ⌝ }
-    ensures { λ r. ⌜ (Keeps (R·Register .network (now (register .entry))) (now (tables .entry)) → WidestWithin (S·Scale .measure) (R·Register .network (now (register .entry))) (ledger-of (now (tables .entry))) from to mode limit r) ⌝ }
+    ensures { λ r. ⌜ (Keeps (network (now (register .entry))) (now (tables .entry)) → WidestWithin measure (network (now (register .entry))) (ledger-of (now (tables .entry))) from to mode limit r) ⌝ }
 {
     let mut low = 0;
     let mut high = MAX_RATE + 1;
