@@ -15,6 +15,9 @@ use tables::Route;
 use tables::Tables;
 use tables::marks;
 
+// The search writes no longer route than this.
+const MAX_ROUTE: usize = 127;
+
 // Two routes, and the cost of what they share.
 #[derive(Clone, Copy)]
 pub struct Plan<V> {
@@ -40,8 +43,8 @@ fn pair_at<R: Register>(
     let arcs = arcs(register, tables, rate, mode);
     let arcs = &arcs[0..register.circuits() as usize];
     let places = register.places() as usize;
-    let mut first = [0; 127];
-    let mut second = [0; 127];
+    let mut first = [0; MAX_ROUTE];
+    let mut second = [0; MAX_ROUTE];
     let (n, m) = search::pair(
         arcs,
         places,
