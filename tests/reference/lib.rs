@@ -7,6 +7,7 @@
 pub mod book;
 pub mod brute;
 pub mod flow;
+pub mod host;
 pub mod image;
 pub mod orders;
 pub mod pair;

@@ -91,11 +91,18 @@ impl Draft {
 
 /// A draft with at most so many places and circuits, at least 2 and 1.
 pub fn draft(random: &mut Random, most_places: usize, most_circuits: usize) -> Draft {
-    let rates: Vec<u32> = (0..random.between(1, 3)).map(|_| some_rate(random)).collect();
-    let full = random.percent(20);
-    let places = if full { most_places } else { random.between(2, most_places as u32) as usize };
+    if random.percent(20) {
+        return sized(random, most_places, most_circuits);
+    }
+    let places = random.between(2, most_places as u32) as usize;
     let fewest = if random.percent(80) { places.min(most_circuits) } else { 1 };
-    let circuits = if full { most_circuits } else { random.between(fewest as u32, most_circuits as u32) as usize };
+    let circuits = random.between(fewest as u32, most_circuits as u32) as usize;
+    sized(random, places, circuits)
+}
+
+/// A draft with so many places, and circuits up to this number as its form wants them.
+pub fn sized(random: &mut Random, places: usize, circuits: usize) -> Draft {
+    let rates: Vec<u32> = (0..random.between(1, 3)).map(|_| some_rate(random)).collect();
     let mut ends = match random.below(10) {
         0 => split(random, places, circuits),
         1 | 2 => chain(random, places, circuits),
@@ -103,7 +110,7 @@ pub fn draft(random: &mut Random, most_places: usize, most_circuits: usize) -> D
         5 | 6 => traps(random, places),
         _ => scatter(random, places, circuits),
     };
-    ends.truncate(most_circuits);
+    ends.truncate(circuits);
     // Circuits that lead back, so that there are loops.
     if random.percent(30) {
         while ends.len() < circuits {
@@ -118,7 +125,8 @@ pub fn draft(random: &mut Random, most_places: usize, most_circuits: usize) -> D
     if random.percent(70) {
         random.shuffle(&mut ends);
     }
-    let plenty = random.pick(&[0, 20, 60, 90]);
+    // On long routes a few narrow circuits are enough.
+    let plenty = if places > 16 { random.pick(&[60, 95, 98, 99, 100]) } else { random.pick(&[0, 20, 60, 90]) };
     let costly = random.pick(&[COST, 9, 3, 0]);
     let circuits = ends
         .iter()
