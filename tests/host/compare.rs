@@ -119,7 +119,7 @@ fn some_draft(random: &mut Random) -> Draft {
 
 fn some_call(random: &mut Random, draft: &Draft) -> Call {
     let (from, to) = draft.places(random);
-    let mode = if random.percent(2) { random.pick(&[0, 3, 256, u32::MAX]) } else { random.between(1, 2) };
+    let mode = if random.percent(2) { random.pick(&[0, 3, 257, 65_538, u32::MAX]) } else { random.between(1, 2) };
     let output_len = match random.below(100) {
         0..90 => OUTPUT,
         90..96 => OUTPUT + random.below(100) as usize,

@@ -44,7 +44,7 @@ pub unsafe extern "C" fn route_book_safest(
         Err(8) => return 16,
         Err(number) => return number,
     };
-    #[cfg(any(fault = "cost", fault = "same", fault = "loop"))]
+    #[cfg(any(fault = "cost", fault = "same", fault = "greedy", fault = "loop"))]
     let mut answer = answer;
     #[cfg(fault = "cost")]
     {
@@ -60,6 +60,17 @@ pub unsafe extern "C" fn route_book_safest(
             answer.cost = cost;
         }
     }
+    // A shortest route, then one that avoids it.
+    #[cfg(fault = "greedy")]
+    {
+        let first = shortest(&_book, from, to, rate, &[]).unwrap();
+        let second = shortest(&_book, from, to, rate, &first).unwrap_or_else(|| first.clone());
+        answer.pair = [first, second];
+        match _book.try_pair(from, to, rate, host::mode(mode).unwrap(), &answer.pair) {
+            Ok(cost) => answer.cost = cost,
+            Err(_) => return 16,
+        }
+    }
     #[cfg(fault = "loop")]
     answer.pair[1].reverse();
     let bytes = host::written(&answer);
@@ -72,4 +83,21 @@ pub unsafe extern "C" fn route_book_safest(
         *byte = 0;
     }
     0
+}
+
+#[cfg(fault = "greedy")]
+fn shortest(book: &reference::book::Book, from: u32, to: u32, rate: u32, avoided: &[u16]) -> Option<Vec<u16>> {
+    let mut routes: Vec<Option<Vec<u16>>> = vec![None; book.network.places];
+    routes[from as usize] = Some(Vec::new());
+    for _ in 1..book.network.places {
+        let before = routes.clone();
+        for (number, circuit) in book.network.circuits.iter().enumerate() {
+            let number = number as u16;
+            let usable = circuit.bandwidth >= rate && !avoided.contains(&number);
+            if let (true, Some(route), None) = (usable, &before[circuit.from as usize], &routes[circuit.to as usize]) {
+                routes[circuit.to as usize] = Some([&route[..], &[number]].concat());
+            }
+        }
+    }
+    routes[to as usize].clone()
 }
