@@ -4,7 +4,6 @@ use crate::book::{self, Answer, Book, Matter, ROOM, Refusal};
 use crate::pair::{MODES, Mode};
 use crate::random::{Draft, Random};
 use crate::scale::{Scale, Value};
-use std::collections::VecDeque;
 
 #[derive(Clone, Copy, Debug)]
 pub enum Order {
@@ -213,9 +212,9 @@ pub struct Run<'a> {
     scale: Scale,
     phase: Phase,
     left_in_phase: u32,
-    /// The numbers of the last feeds and notices, whether or not they stand.
-    feeds: VecDeque<u32>,
-    notices: VecDeque<u32>,
+    /// The numbers of feeds and notices that stand unless they were refused.
+    feeds: Vec<u32>,
+    notices: Vec<u32>,
 }
 
 #[derive(Clone, Copy)]
@@ -224,22 +223,23 @@ struct Phase {
     mix: [u32; 9],
     /// What rates are divided by.
     thin: u32,
-    /// The largest number of a feed or a notice.
-    numbers: u32,
+    /// The largest number of a feed, and of a notice.
+    most_feeds: u32,
+    most_notices: u32,
     /// The circuits that most notices name.
     troubled: [u32; 3],
 }
 
-const MIXED: [u32; 9] = [4, 2, 6, 4, 2, 2, 1, 1, 2];
-const FILLING: [u32; 9] = [2, 1, 20, 1, 1, 1, 1, 1, 1];
-const EMPTYING: [u32; 9] = [1, 1, 1, 10, 1, 5, 1, 1, 1];
-const CLOSING: [u32; 9] = [2, 1, 3, 2, 9, 2, 1, 3, 1];
-const REOPENING: [u32; 9] = [4, 2, 6, 3, 1, 12, 1, 2, 2];
+const MIXED: [u32; 9] = [8, 4, 8, 6, 1, 2, 1, 1, 2];
+const FILLING: [u32; 9] = [3, 2, 20, 2, 1, 2, 1, 1, 1];
+const EMPTYING: [u32; 9] = [4, 2, 2, 10, 1, 5, 1, 1, 1];
+const CLOSING: [u32; 9] = [4, 2, 4, 3, 6, 3, 1, 3, 1];
+const REOPENING: [u32; 9] = [6, 3, 6, 4, 1, 8, 1, 2, 2];
 
 impl<'a> Run<'a> {
     pub fn new(draft: &'a Draft, scale: Scale) -> Run<'a> {
-        let phase = Phase { mix: MIXED, thin: 1, numbers: 1, troubled: [0; 3] };
-        Run { draft, scale, phase, left_in_phase: 0, feeds: VecDeque::new(), notices: VecDeque::new() }
+        let phase = Phase { mix: MIXED, thin: 1, most_feeds: 1, most_notices: 1, troubled: [0; 3] };
+        Run { draft, scale, phase, left_in_phase: 0, feeds: Vec::new(), notices: Vec::new() }
     }
 
     pub fn next(&mut self, random: &mut Random) -> Order {
@@ -247,8 +247,9 @@ impl<'a> Run<'a> {
             self.left_in_phase = random.between(20, 300);
             self.phase = Phase {
                 mix: random.pick(&[MIXED, MIXED, MIXED, FILLING, FILLING, EMPTYING, CLOSING, REOPENING, REOPENING]),
-                thin: random.pick(&[1, 1, 2, 8, 40, 200]),
-                numbers: random.pick(&[6, 34, 40]),
+                thin: random.pick(&[1, 2, 8, 40, 200, 1000]),
+                most_feeds: random.pick(&[12, 34, 40]),
+                most_notices: random.pick(&[2, 3, 3, 3, 5, 40]),
                 troubled: [(); 3].map(|_| self.circuit(random)),
             };
         }
@@ -266,48 +267,36 @@ impl<'a> Run<'a> {
             0 => Order::Safest { from, to, rate: self.rate(random), mode },
             1 => Order::Widest { from, to, mode, limit },
             2 => {
-                let feed = self.number(random);
-                remember(&mut self.feeds, feed);
+                let feed = fresh(random, &mut self.feeds, self.phase.most_feeds);
                 Order::Book { feed, from, to, rate: self.rate(random), mode, limit }
             }
-            3 => Order::Release { feed: self.feed(random) },
+            3 => {
+                let feed = standing(random, &self.feeds, self.phase.most_feeds);
+                self.feeds.retain(|&known| known != feed);
+                Order::Release { feed }
+            }
             4 => {
-                let notice = self.number(random);
-                remember(&mut self.notices, notice);
+                let notice = fresh(random, &mut self.notices, self.phase.most_notices);
                 let circuit = if random.percent(80) { random.pick(&self.phase.troubled) } else { self.circuit(random) };
                 Order::Close { notice, circuit }
             }
-            5 => Order::Reopen { notice: self.notice(random) },
+            5 => {
+                let notice = standing(random, &self.notices, self.phase.most_notices);
+                self.notices.retain(|&known| known != notice);
+                Order::Reopen { notice }
+            }
             6 => Order::Left { circuit: self.circuit(random) },
             7 => Order::Open { circuit: self.circuit(random) },
-            _ => Order::Uses { feed: self.feed(random), circuit: self.circuit(random) },
+            _ => {
+                let feed = standing(random, &self.feeds, self.phase.most_feeds);
+                Order::Uses { feed, circuit: self.circuit(random) }
+            }
         }
     }
 
     fn rate(&self, random: &mut Random) -> u32 {
         let rate = self.draft.rate(random);
         if self.phase.thin == 1 || random.percent(10) { rate } else { rate / self.phase.thin + 1 }
-    }
-
-    /// A number for a feed or a notice.
-    fn number(&self, random: &mut Random) -> u32 {
-        if random.percent(2) { random.pick(&[0, u32::MAX, 1 << 16]) } else { random.between(1, self.phase.numbers) }
-    }
-
-    fn feed(&self, random: &mut Random) -> u32 {
-        if self.feeds.is_empty() || random.percent(20) {
-            self.number(random)
-        } else {
-            self.feeds[random.below(self.feeds.len() as u32) as usize]
-        }
-    }
-
-    fn notice(&self, random: &mut Random) -> u32 {
-        if self.notices.is_empty() || random.percent(20) {
-            self.number(random)
-        } else {
-            self.notices[random.below(self.notices.len() as u32) as usize]
-        }
     }
 
     fn circuit(&self, random: &mut Random) -> u32 {
@@ -343,9 +332,23 @@ impl<'a> Run<'a> {
     }
 }
 
-fn remember(numbers: &mut VecDeque<u32>, number: u32) {
-    if numbers.len() == 32 {
-        numbers.pop_front();
+/// A number for a new feed or notice: mostly one that is free.
+fn fresh(random: &mut Random, known: &mut Vec<u32>, most: u32) -> u32 {
+    let mut number = any_number(random, most);
+    if known.contains(&number) && random.percent(90) {
+        number = (1..=most).find(|number| !known.contains(number)).unwrap_or(number);
     }
-    numbers.push_back(number);
+    if !known.contains(&number) {
+        known.push(number);
+    }
+    number
+}
+
+/// The number of a feed or a notice: mostly one that stands.
+fn standing(random: &mut Random, known: &[u32], most: u32) -> u32 {
+    if known.is_empty() || random.percent(10) { any_number(random, most) } else { random.pick(known) }
+}
+
+fn any_number(random: &mut Random, most: u32) -> u32 {
+    if random.percent(2) { random.pick(&[0, u32::MAX, 1 << 16]) } else { random.between(1, most) }
 }
