@@ -71,7 +71,16 @@ fn compare(bytes: &[u8], call: Call) -> Result<(u32, u32), String> {
     // SAFETY: both pointers are to live buffers of these lengths, which do not overlap.
     let result = unsafe {
         let output = buffer[MARGIN..].as_mut_ptr();
-        route_book_safest(given.as_ptr(), given.len(), output, call.output_len, call.from, call.to, call.rate, call.mode)
+        route_book_safest(
+            given.as_ptr(),
+            given.len(),
+            output,
+            call.output_len,
+            call.from,
+            call.to,
+            call.rate,
+            call.mode,
+        )
     };
     if given != bytes {
         return Err("the image has changed".to_string());

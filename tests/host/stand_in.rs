@@ -15,9 +15,8 @@ pub unsafe extern "C" fn route_book_safest(
     rate: u32,
     mode: u32,
 ) -> u32 {
-    let (image, output) = unsafe {
-        (std::slice::from_raw_parts(image, image_len), std::slice::from_raw_parts_mut(output, output_len))
-    };
+    let (image, output) =
+        unsafe { (std::slice::from_raw_parts(image, image_len), std::slice::from_raw_parts_mut(output, output_len)) };
     let call = Call { output_len, from, to, rate, mode };
     #[cfg(fault = "mode")]
     let call = Call { mode: mode & 255, ..call };

@@ -6,9 +6,10 @@
 //! reference then plays the same orders. Which of the least-cost pairs is answered is free, so it checks each pair
 //! that the planner answered, and books that one.
 
-use reference::book::Book;
+use reference::book::{Book, Matter, ROOM};
 use reference::image::{self, Network};
 use reference::orders::{self, Order, Reply, Run};
+use reference::pair::Mode;
 use reference::random::{self, Draft, Random};
 use reference::scale::{SCALES, Scale};
 use std::fs::{self, File};
@@ -35,7 +36,8 @@ fn main() {
             [] => {
                 let draft = some_draft(&mut random);
                 let file = folder.join("image");
-                fs::write(&file, image::records(&draft.network).concat()).unwrap_or_else(|error| stop(&error.to_string()));
+                fs::write(&file, image::records(&draft.network).concat())
+                    .unwrap_or_else(|error| stop(&error.to_string()));
                 (draft, random.pick(&SCALES), file)
             }
             [scale, file] => {
@@ -87,17 +89,26 @@ impl Tally {
 fn some_draft(random: &mut Random) -> Draft {
     match random.below(10) {
         0..4 => random::draft(random, 6, 12),
-        4..9 => random::draft(random, 24, 60),
-        _ => random::draft(random, 48, 140),
+        4..8 => random::draft(random, 24, 60),
+        8 => random::draft(random, 48, 140),
+        _ => random::draft(random, 128, 384),
     }
 }
 
-/// What to ask of a network that was given.
+/// What to ask of a network that was given: between places with a route, where they are soon found.
 fn draft_of(random: &mut Random, network: Network) -> Draft {
     let places = network.places.max(2) as u32;
-    let from = random.below(places);
-    let to = (from + 1 + random.below(places - 1)) % places;
-    let mut rates: Vec<u32> = network.circuits.iter().flat_map(|circuit| [circuit.bandwidth, circuit.bandwidth / 2]).collect();
+    let mut book = Book::new(network.clone(), Scale::Total);
+    let (mut from, mut to) = (0, 1);
+    for _ in 0..50 {
+        from = random.below(places);
+        to = random.below(places);
+        if book.safest(Matter { from, to, rate: 1, mode: Mode::OneAtATime, rooms: [ROOM; 2] }).is_ok() {
+            break;
+        }
+    }
+    let mut rates: Vec<u32> =
+        network.circuits.iter().flat_map(|circuit| [circuit.bandwidth, circuit.bandwidth / 2]).collect();
     rates.retain(|&rate| (1..=1_000_000).contains(&rate));
     rates.push(1_000_000);
     Draft { network, from, to, rates }

@@ -4,7 +4,7 @@
 //! is wrong in one way, some orders after the start.
 
 use reference::book::{Answer, Book};
-use reference::brute;
+use reference::brute::Trial;
 use reference::image::{self, Circuit, Network};
 use reference::orders::{self, Order, Reply};
 use reference::scale::Scale;
@@ -54,9 +54,8 @@ fn other_pair(book: &Book, order: &Order, answer: &mut Answer) {
         Order::Book { from, to, mode, .. } => (from, to, mode),
         _ => return,
     };
-    let routes = brute::routes(&book.network, from, to);
-    let pairs = brute::pairs(&book.network, book.ledger(), book.scale, &routes, answer.rate, mode);
-    let least = pairs.into_iter().filter(|(cost, _)| *cost == answer.cost).last();
+    let pairs = Trial::new(book, from, to).pairs(answer.rate, mode);
+    let least = pairs.into_iter().rfind(|(cost, _)| *cost == answer.cost);
     answer.pair = least.expect("a pair").1;
 }
 

@@ -13,8 +13,8 @@ pub const ROOM: usize = 127;
 pub type Refusal = u32;
 
 pub const WORDS: [&str; 18] = [
-    "short", "mark", "name", "order", "ends", "figure", "full", "tail", "zero", "taken", "unknown", "crowded", "places",
-    "rate", "list", "no pair", "limit", "mode",
+    "short", "mark", "name", "order", "ends", "figure", "full", "tail", "zero", "taken", "unknown", "crowded",
+    "places", "rate", "list", "no pair", "limit", "mode",
 ];
 
 pub fn word(number: Refusal) -> &'static str {
@@ -100,7 +100,14 @@ impl Book {
         self.least(matter.from, matter.to, matter.rate, matter.mode).ok_or(16)
     }
 
-    pub fn widest(&mut self, from: u32, to: u32, mode: Mode, limit: Value, rooms: [usize; 2]) -> Result<Answer, Refusal> {
+    pub fn widest(
+        &mut self,
+        from: u32,
+        to: u32,
+        mode: Mode,
+        limit: Value,
+        rooms: [usize; 2],
+    ) -> Result<Answer, Refusal> {
         self.check_places(from, to)?;
         check_rooms(rooms)?;
         let mut best = self.least(from, to, 1, mode).ok_or(16u32)?;
@@ -111,7 +118,7 @@ impl Book {
             rates.push(left);
             rates.push(left / 2);
         }
-        rates.retain(|&rate| rate >= 1 && rate <= RATE);
+        rates.retain(|rate| (1..=RATE).contains(rate));
         rates.sort();
         rates.dedup();
         // What carries a rate carries each smaller one at the same cost.

@@ -103,8 +103,11 @@ impl Flow {
     /// Whether two units pass where only circuits up to a threshold may be shared.
     fn within(&mut self, from: u16, to: u16, lanes: &[u8], threshold: usize) -> bool {
         let most = self.thresholds[threshold];
-        let lanes: Vec<u8> =
-            lanes.iter().zip(&self.costs).map(|(&lanes, &cost)| if cost > most { lanes.min(1) } else { lanes }).collect();
+        let lanes: Vec<u8> = lanes
+            .iter()
+            .zip(&self.costs)
+            .map(|(&lanes, &cost)| if cost > most { lanes.min(1) } else { lanes })
+            .collect();
         let weights = vec![0; lanes.len()];
         self.two_units(from, to, &lanes, &weights).is_some()
     }
@@ -173,7 +176,8 @@ impl Flow {
 
     /// The two routes of the units, without their loops.
     fn routes(&self, from: u16, to: u16) -> Pair {
-        let mut units: Vec<u8> = self.units.iter().map(|units| units.iter().filter(|&&unit| unit).count() as u8).collect();
+        let mut units: Vec<u8> =
+            self.units.iter().map(|units| units.iter().filter(|&&unit| unit).count() as u8).collect();
         [(); 2].map(|_| {
             let mut route = Route::new();
             let mut place = from;

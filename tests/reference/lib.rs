@@ -1,8 +1,5 @@
 //! A second implementation of the route book, written from docs/ alone and by other methods than the first.
-//! The tests compare the two.
-//!
-//! Build it by `rustc -O --crate-type rlib --crate-name reference tests/reference/lib.rs`; tests/reference/run
-//! does so and runs its own tests.
+//! The tests compare the two. `run` builds it and runs its own tests.
 
 pub mod book;
 pub mod brute;

@@ -149,9 +149,7 @@ impl Reply {
 pub fn answer(book: &mut Book, order: &Order) -> Reply {
     let rooms = [ROOM; 2];
     let result = match *order {
-        Order::Safest { from, to, rate, mode } => {
-            book.safest(Matter { from, to, rate, mode, rooms }).map(Reply::Pair)
-        }
+        Order::Safest { from, to, rate, mode } => book.safest(Matter { from, to, rate, mode, rooms }).map(Reply::Pair),
         Order::Widest { from, to, mode, limit } => book.widest(from, to, mode, limit, rooms).map(Reply::Pair),
         Order::Book { feed, from, to, rate, mode, limit } => {
             book.judge(feed, Matter { from, to, rate, mode, rooms }, limit).map(Reply::Pair)

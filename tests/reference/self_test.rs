@@ -1,7 +1,7 @@
 //! Tests of the reference itself: the worked examples of docs/, and its flows against trying all routes.
 
 use reference::book::{Book, Matter, ROOM};
-use reference::brute;
+use reference::brute::Trial;
 use reference::image::{self, Circuit, LoadRefusal, Network};
 use reference::orders::{self, Order, Reply, Run};
 use reference::pair::{self, MODES, Mode};
@@ -118,12 +118,15 @@ fn worked_network() {
         assert_eq!((routes, answer.cost), ([vec![0, 4, 3], vec![1, 3]], total(4)));
     }
     assert_eq!(book.safest(matter(25_001, Mode::Both)), Err(16));
-    for (scale, cost) in [(Scale::Total, total(9)), (Scale::Worst, total(5)), (Scale::Tally, Value { count: 2, total: 9 })] {
+    for (scale, cost) in
+        [(Scale::Total, total(9)), (Scale::Worst, total(5)), (Scale::Tally, Value { count: 2, total: 9 })]
+    {
         let answer = Book::new(worked(), scale).safest(matter(25_001, Mode::OneAtATime)).unwrap();
         assert_eq!((answer.pair, answer.cost), ([vec![1, 3], vec![1, 3]], cost));
     }
     assert_eq!(book.safest(matter(30_001, Mode::OneAtATime)), Err(16));
-    let widest = |book: &mut Book, mode, limit| book.widest(0, 3, mode, total(limit), [ROOM; 2]).map(|answer| answer.rate);
+    let widest =
+        |book: &mut Book, mode, limit| book.widest(0, 3, mode, total(limit), [ROOM; 2]).map(|answer| answer.rate);
     for (limit, rate) in [(3, 20_000), (4, 25_000), (8, 25_000), (9, 30_000)] {
         assert_eq!(widest(&mut book, Mode::OneAtATime, limit), Ok(rate));
     }
@@ -221,14 +224,13 @@ fn against_brute_force(networks: u32) -> u32 {
         if from == to || from.max(to) as usize >= draft.network.places {
             continue;
         }
-        let ledger = book.ledger().clone();
-        let routes = brute::routes(&draft.network, from, to);
         for mode in MODES {
             let rate = draft.rate(&mut random).clamp(1, 1_000_000);
-            let least = brute::least(&draft.network, &ledger, scale, &routes, rate, mode);
-            // The book may promise a pair only if no larger set is cheaper, or carries where none of two does.
-            if routes.len() <= 12 {
-                let three = brute::least_of_three(&draft.network, &ledger, scale, &routes, rate, mode);
+            let trial = Trial::new(&book, from, to);
+            let least = trial.least(rate, mode);
+            // A pair may be promised only if no larger set is cheaper, or carries where none of two does.
+            if trial.routes.len() <= 12 {
+                let three = trial.least_of_three(rate, mode);
                 assert!(three.is_none() || least.is_some_and(|least| least <= three.unwrap()));
             }
             let answer = book.safest(Matter { from, to, rate, mode, rooms: [ROOM; 2] });
@@ -237,7 +239,7 @@ fn against_brute_force(networks: u32) -> u32 {
                     seen[if answer.cost == ZERO { 0 } else { 1 }] += 1;
                     assert_eq!(Some(answer.cost), least);
                     assert_eq!(book.try_pair(from, to, rate, mode, &answer.pair), Ok(answer.cost));
-                    let bandwidth = pair::bandwidth(&ledger, [&answer.pair[0], &answer.pair[1]], mode);
+                    let bandwidth = pair::bandwidth(book.ledger(), [&answer.pair[0], &answer.pair[1]], mode);
                     assert!(bandwidth >= rate);
                 }
                 Err(number) => {
@@ -247,13 +249,13 @@ fn against_brute_force(networks: u32) -> u32 {
             }
             let near = answer.map_or(ZERO, |answer| answer.cost);
             for limit in [ZERO, near, Value { count: near.count, total: near.total.saturating_sub(1) }] {
-                let expected = brute::widest(&draft.network, &ledger, scale, &routes, mode, limit);
                 let answer = book.widest(from, to, mode, limit, [ROOM; 2]);
+                let trial = Trial::new(&book, from, to);
+                let expected = trial.widest(mode, limit);
                 seen[3] += if expected == Err(17) { 1 } else { 0 };
                 assert_eq!(answer.as_ref().map(|answer| answer.rate).map_err(|number| *number), expected);
                 if let Ok(answer) = answer {
-                    let least = brute::least(&draft.network, &ledger, scale, &routes, answer.rate, mode);
-                    assert_eq!(Some(answer.cost), least);
+                    assert_eq!(Some(answer.cost), trial.least(answer.rate, mode));
                     assert_eq!(book.try_pair(from, to, answer.rate, mode, &answer.pair), Ok(answer.cost));
                 }
                 compared += 1;
@@ -281,8 +283,7 @@ fn follows(networks: u32) -> u32 {
             assert_eq!(order.show(scale), Order::read(scale, &order.show(scale)).unwrap().show(scale));
             let mut reply = orders::answer(&mut leader, &order);
             if let (Reply::Pair(answer), Order::Book { from, to, rate, mode, .. }) = (&mut reply, order) {
-                let routes = brute::routes(&draft.network, from, to);
-                let pairs = brute::pairs(&draft.network, leader.ledger(), scale, &routes, rate, mode);
+                let pairs = Trial::new(&leader, from, to).pairs(rate, mode);
                 let best: Vec<_> = pairs.into_iter().filter(|(cost, _)| *cost == answer.cost).collect();
                 answer.pair = best[random.below(best.len() as u32) as usize].1.clone();
             }
