@@ -2,7 +2,6 @@
 ghost use mathlib.Core.Path.{_≡_};
 ghost use lib.Chars.{codes};
 ghost use Rattle.network.specs.Refusals.{number-of, word-of};
-
 use std::fmt;
 
 #[derive(Clone, Copy, PartialEq, Eq, Debug)]
