@@ -1,5 +1,0 @@
-use Rattle.worked.proofs.theorems.route_lines_hold.Needs as need
-use Rattle.worked.proofs.WorkedLines.{routes-and-sets}
-
-pub returns : need.returns
-returns c = routes-and-sets
