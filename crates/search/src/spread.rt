@@ -13,6 +13,9 @@ use crate::MAX_PLACES;
 use crate::index::Chains;
 use crate::index::Index;
 
+// The lanes of an arc that both routes may use.
+const BOTH: u8 = 2;
+
 // The places seen so far stand in `order`, the first `count` entries. The rank of a place is where it stands there, from 1
 // on; the rank 0 says that it was not seen. `via` has the arc by which it was seen.
 #[derive(Drop)]
@@ -178,7 +181,7 @@ pub(crate) fn explore(
             done += 1;
         } else {
             let (start, c) = seen.gate(arcs, &index.out, held)?;
-            if arcs[c].lanes < 2 {
+            if arcs[c].lanes < BOTH {
                 return None;
             }
             seen.see(arcs[c].to as usize, c);

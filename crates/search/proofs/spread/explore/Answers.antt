@@ -14,7 +14,7 @@ loop-seen-holds c =
 pub loop-seen-again-then-done-seen : need.loop-seen-again-then-done-seen
 loop-seen-again-then-done-seen c =
     let s = c .scan .ensures in
-    explored-scan _ _ _ _ _ _ _ _ (c .loop-seen .inv) (c .if-done-seen .taken) (s .more) (s .forth) (s .back)
+    explored-scan _ _ _ _ _ _ _ _ (c .loop-seen .inv) (omega arith) (s .more) (s .forth) (s .back)
 
 -- no arc leaves the seen places
 pub returns-in-Break-start : need.returns-in-Break-start
@@ -22,20 +22,20 @@ returns-in-Break-start c =
     let s = c .pre .sound in
     let long : length (c .args .arcs .now) ≤ length (c .args .flow .now) = omega (arith, c .pre .proper .few-arcs, c .pre .flow) in
     let none : Refused (c .args .arcs .now) (c .args .from) (c .args .to) =
-    cut-off _ _ _ _ (s .0) (s .1) (s .2) long _ _ _ (c .loop-seen .inv) (c .if-done-seen .left) (c .loop-seen-test .taken) (c .in-Break-start .ensures tt) in
+    cut-off _ _ _ _ (s .0) (s .1) (s .2) long _ _ _ (c .loop-seen .inv) (omega arith) (c .loop-seen-test .taken) (c .in-Break-start .ensures tt) in
     rw (c .from-residual .ensures) none
 
 -- the one that does is on every route
-pub returns-then-arcs-c-lt2 : need.returns-then-arcs-c-lt2
-returns-then-arcs-c-lt2 c =
+pub returns-then-arcs-c-lt-BOTH : need.returns-then-arcs-c-lt-BOTH
+returns-then-arcs-c-lt-BOTH c =
     let s = c .pre .sound in
     let long : length (c .args .arcs .now) ≤ length (c .args .flow .now) = omega (arith, c .pre .proper .few-arcs, c .pre .flow) in
-    inr (c .in-Continue-start .c, needed _ _ _ _ (s .0) (s .1) (s .2) long _ _ _ (c .loop-seen .inv) (c .if-done-seen .left) (c .loop-seen-test .taken) _ (c .in-Continue-start .ensures tt .2), c .if-arcs-c-lt2 .taken)
+    inr (c .in-Continue-start .c, needed _ _ _ _ (s .0) (s .1) (s .2) long _ _ _ (c .loop-seen .inv) (omega arith) (c .loop-seen-test .taken) _ (c .in-Continue-start .ensures tt .2), omega arith)
 
 pub loop-seen-again : need.loop-seen-again
 loop-seen-again c =
     let s = c .pre .sound in
     let e = c .in-Continue-start .ensures tt in
     let long : length (c .args .arcs .now) ≤ length (c .args .flow .now) = omega (arith, c .pre .proper .few-arcs, c .pre .flow) in
-    explored-gate _ _ _ _ (s .0) (s .1) (s .2) long _ _ _ (c .loop-seen .inv) (c .if-done-seen .left) (c .loop-seen-test .taken) _ (c .in-Continue-start .c) _ (e .2)
-    (omega (arith, c .if-arcs-c-lt2 .left, c .pre .proper .joins (c .in-Continue-start .c) (e .2 .is) .few)) (c .see .ensures) (e .0) (e .1)
+    explored-gate _ _ _ _ (s .0) (s .1) (s .2) long _ _ _ (c .loop-seen .inv) (omega arith) (c .loop-seen-test .taken) _ (c .in-Continue-start .c) _ (e .2)
+    (omega (arith, c .if-arcs-c-lt-BOTH .left, c .pre .proper .joins (c .in-Continue-start .c) (e .2 .is) .few)) (c .see .ensures) (e .0) (e .1)
