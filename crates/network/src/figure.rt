@@ -6,6 +6,9 @@ ghost use Rattle.network.specs.Image.{at16, at32};
 ghost use Rattle.network.specs.Layout.{after-place, circuit-from, name-from};
 use super::register::Circuit;
 
+// How many bytes a circuit's record has.
+pub(crate) const CIRCUIT_BYTES: usize = 14;
+
 pub(crate) fn read16(image: &[u8], at: usize) -> u16
     requires { ⌜ at + 2 ≤ length (now image) ⌝ }
     ensures is { λ r. ⌜ r ≡ at16 (now (image .entry)) at ⌝ }

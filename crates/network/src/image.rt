@@ -12,6 +12,7 @@ ghost use Rattle.network.specs.Image.{Image, Refused};
 ghost use Rattle.network.specs.Layout.{network-in};
 ghost use Rattle.network.specs.Reading.{Tells, told-after};
 ghost use Rattle.network.specs.Refusals.{number-of};
+use super::figure::CIRCUIT_BYTES;
 use super::figure::read_circuit;
 use super::figure::read_name;
 use super::layout::Layout;
@@ -96,7 +97,7 @@ pub impl Register for ImageRegister<'_> as ImageRegisterRegister {
         if number >= self.layout.circuits as u32 {
             return None;
         }
-        let at = self.layout.first + 14 * number as usize;
+        let at = self.layout.first + CIRCUIT_BYTES * number as usize;
         Some(read_circuit(self.image, at))
     }
 }

@@ -7,10 +7,16 @@ ghost use Rattle.std.specs.declared.result.Result.the-variants.{Ok, Err};
 ghost use Rattle.network.specs.Image.{Repeats, Refused};
 ghost use Rattle.network.specs.Layout.{end-of, place-offset, after-place, name-from, names-in, Scanned, Complete, MarkAt};
 ghost use Rattle.network.specs.Refusals.{number-of};
+use super::figure::CIRCUIT_BYTES;
 use super::figure::read_circuit;
 use super::figure::read16;
 use super::refusal::LoadRefusal;
 use super::refusal::Refusal;
+use super::register::MOST_CIRCUITS;
+use super::register::MOST_PLACES;
+
+// The most bytes that a place's name has.
+const LONGEST_NAME: usize = 16;
 
 // How many places and circuits an image has, and the offset of the first circuit.
 #[derive(Clone, Copy)]
@@ -34,7 +40,7 @@ impl Layout {
         requires { ⌜ end-of self < 2 ^ 64 ⌝ }
         ensures { λ r. ⌜ r ≡ end-of self ⌝ }
     {
-        self.first + 14 * self.circuits as usize
+        self.first + CIRCUIT_BYTES * self.circuits as usize
     }
 
     // The refusal of the record that begins there.
@@ -112,14 +118,14 @@ fn after_place(image: &[u8], layout: Layout) -> Result<Layout, LoadRefusal>
     if layout.circuits > 0 {
         return Err(layout.refused(Refusal::Order));
     }
-    if layout.places >= 128 {
+    if layout.places >= MOST_PLACES {
         return Err(layout.refused(Refusal::Full));
     }
     if image.len() - at < 3 {
         return Err(layout.refused(Refusal::Short));
     }
     let size = image[at + 2] as usize;
-    if size < 1 || size > 16 {
+    if size < 1 || size > LONGEST_NAME {
         return Err(layout.refused(Refusal::Name));
     }
     if image.len() - at < 3 + size {
@@ -142,10 +148,10 @@ fn after_circuit(image: &[u8], layout: Layout) -> Result<Layout, LoadRefusal>
     ensures { λ r. ⌜ elim r [ Ok l ↦ Scanned (now (image .entry)) l × (end-of layout < end-of l) | Err e ↦ Refused (now (image .entry)) (number-of (e .refusal)) (e .at) ] ⌝ }
 {
     let at = layout.end();
-    if layout.circuits >= 384 {
+    if layout.circuits >= MOST_CIRCUITS {
         return Err(layout.refused(Refusal::Full));
     }
-    if image.len() - at < 14 {
+    if image.len() - at < CIRCUIT_BYTES {
         return Err(layout.refused(Refusal::Short));
     }
     let circuit = read_circuit(image, at);

@@ -5,6 +5,7 @@ ghost use Prim.Native.Nat.{ℕ, _+_, _-_, _≤_};
 ghost use Rattle.std.specs.Options.{Cases};
 ghost use Rattle.network.specs.Held.{Held};
 ghost use Rattle.network.specs.Reading.{Next, told-by, told-after};
+use super::figure::CIRCUIT_BYTES;
 use super::figure::read_circuit;
 use super::figure::read_name;
 use super::figure::read16;
@@ -63,7 +64,7 @@ pub impl<'a> Iterator for Records<'a> as RecordsIterator {
             self.given = number + 1;
             Some(Record::Place { name })
         } else if number < places + self.layout.circuits {
-            let at = self.layout.first + 14 * (number - places) as usize;
+            let at = self.layout.first + CIRCUIT_BYTES * (number - places) as usize;
             self.given = number + 1;
             Some(Record::Circuit(read_circuit(self.image, at)))
         } else if number == places + self.layout.circuits {

@@ -7,6 +7,16 @@ ghost use Rattle.std.specs.Orderings.{Decides};
 ghost use Rattle.network.specs.Image.{BadEnds, BadFigures};
 ghost use Rattle.network.specs.Network.{Network, Proper, circuit as circuit-of};
 
+// What a register holds at most, in places and in circuits.
+pub const MOST_PLACES: u16 = 128;
+
+pub const MOST_CIRCUITS: u16 = 384;
+
+// The largest figures of a circuit.
+pub const MOST_BANDWIDTH: u32 = 64_000_000;
+
+pub const MOST_COST: u32 = 1_000_000;
+
 // A circuit leads from one place to another, in that direction only. Bandwidth is in kbit/s.
 #[derive(Clone, Copy, PartialEq, Eq, Debug)]
 pub struct Circuit {
@@ -28,7 +38,7 @@ impl Circuit {
     pub(crate) fn bad_figures(self) -> bool
         ensures { λ r. ⌜ Decides r (BadFigures self) ⌝ }
     {
-        self.bandwidth < 1 || self.bandwidth > 64_000_000 || self.cost > 1_000_000
+        self.bandwidth < 1 || self.bandwidth > MOST_BANDWIDTH || self.cost > MOST_COST
     }
 }
 
