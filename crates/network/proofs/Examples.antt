@@ -1,12 +1,11 @@
 -- An image, and a refusal: the statements are about something.
 use mathlib.Core.Path.{_≡_, refl}
 use mathlib.Core.List.{List, [], _∷_, _++_}
-use mathlib.Core.Logic.{_⊎_, inl, inr}
-use Prim.Native.Nat.{ℕ, _+_, _<_, _≤_}
+use mathlib.Core.Logic.{inl, inr}
+use Prim.Native.Nat.{ℕ, _+_}
 use native.Mathlib.Omega.{arith}
 use lib.ListN.{length}
 use Rattle.network.specs.declared.register.Circuit.{Circuit}
-use Rattle.network.specs.Network.{Sound}
 use Rattle.network.specs.Image.{Records, Repeats, Image, Refused, end-bytes, records-bytes}
 use Rattle.network.proofs.Steps.{at-start, no-mark}
 

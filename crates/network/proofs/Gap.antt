@@ -1,15 +1,13 @@
 -- With a figure's byte above 255 a list is neither an image nor refused.
-use mathlib.Core.Path.{_≡_, refl, sym, ap, subst, _∙_}
+use mathlib.Core.Path.{_≡_, refl, sym, subst}
 use mathlib.Core.List.{List, [], _∷_, _++_}
-use mathlib.Core.Logic.{_⊎_, inl, inr}
-use Prim.Native.Nat.{ℕ, _+_, _/_, _%_, _<_, _≤_}
+use mathlib.Core.Logic.{inl, inr}
+use Prim.Native.Nat.{ℕ, _+_, _%_}
 use native.Mathlib.Omega.{arith}
-use lib.ListN.{length, getD, take, drop}
+use lib.ListN.{length}
 use Rattle.std.proofs.shelf.Bits.{mod-below}
-use Rattle.network.specs.Checks.{Passed}
 use Rattle.network.specs.declared.register.Circuit.{Circuit}
-use Rattle.network.specs.Network.{Sound}
-use Rattle.network.specs.Image.{end-bytes, records-bytes, Records, Repeats, BadEnds, BadFigures, Image, told, circuit-checks, Fault, Refused}
+use Rattle.network.specs.Image.{end-bytes, records-bytes, Records, Repeats, BadEnds, BadFigures, Image, told, Fault, Refused}
 use Rattle.network.proofs.Readings.{Stops, end-stops, fault-stops, same-reading, circuit-no-fault}
 
 abbrev two-names : List (List ℕ)

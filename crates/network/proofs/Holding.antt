@@ -1,14 +1,12 @@
 -- What a register that was loaded holds.
-use mathlib.Core.Path.{_≡_, refl, sym, ap, subst, _∙_}
-use mathlib.Core.List.{List, [], _∷_, map}
-use Prim.Native.Nat.{ℕ, _+_, _*_, _<_, _≤_}
+use mathlib.Core.Path.{_≡_, refl, sym, ap, _∙_}
+use mathlib.Core.List.{List, [], _∷_}
+use Prim.Native.Nat.{ℕ, _+_, _*_, _<_}
 use native.Mathlib.Omega.{arith}
-use lib.ListN.{length, getD}
+use lib.ListN.{getD}
 use Rattle.std.proofs.shelf.Counted.{getD-map-counting}
 use Rattle.network.specs.declared.layout.Layout.{Layout}
-use Rattle.network.specs.declared.register.Circuit.{Circuit}
 use Rattle.network.specs.Held.{Held, Loaded, Named, image-held, name-count}
-use Rattle.network.specs.Image.{Image}
 use Rattle.network.specs.Layout.{name-from, place-offset, names-in, circuit-from, circuits-in, network-in, Complete}
 use Rattle.network.specs.Network.{Network, no-circuit}
 use Rattle.network.proofs.Steps.{at-start}

@@ -1,8 +1,8 @@
 -- Places one after the other, and lists made by number.
-use mathlib.Core.Path.{_≡_, refl, sym, ap, subst, _∙_}
-use mathlib.Core.List.{List, [], _∷_, _++_, map}
+use mathlib.Core.Path.{_≡_, sym, ap, subst, _∙_}
+use mathlib.Core.List.{List, map}
 use mathlib.Core.Logic.{_⊎_, inl, inr, ⊎-elim}
-use Prim.Native.Nat.{ℕ, zero, suc, _+_, _*_, _<_, _≤_}
+use Prim.Native.Nat.{ℕ, zero, suc, _+_, _<_, _≤_}
 use native.Mathlib.Omega.{arith}
 use native.Mathlib.Numerals.{add-one}
 use lib.ListN.{length, getD, take, drop}
@@ -10,7 +10,7 @@ use Rattle.std.specs.Iters.{counting}
 use Rattle.std.proofs.shelf.Lists.{length-drop, length-take-le, getD-take, getD-drop, ext-getD}
 use Rattle.std.proofs.shelf.Tests.{cases-eq}
 use Rattle.network.specs.Image.{Repeats}
-use Rattle.network.specs.Layout.{after-place, place-offset, name-from, names-in}
+use Rattle.network.specs.Layout.{after-place, place-offset}
 
 -- one place on
 pub offset-more : (bytes : List ℕ) (i : ℕ) → place-offset bytes (i + 1) ≡ after-place bytes (place-offset bytes i)

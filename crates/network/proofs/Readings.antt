@@ -1,16 +1,16 @@
 -- The bytes of an image, and of a refused load, determine what was read.
 use mathlib.Core.Path.{_≡_, refl, sym, ap, subst, _∙_}
 use mathlib.Core.List.{List, [], _∷_, _++_, map, append-assoc}
-use mathlib.Core.Logic.{_⊎_, inl, inr, ⊎-elim}
-use Prim.Native.Nat.{ℕ, _+_, _*_, _/_, _%_, _<_, _≤_, suc}
+use mathlib.Core.Logic.{_⊎_, inl, inr}
+use Prim.Native.Nat.{ℕ, _+_, _<_, _≤_}
 use native.Mathlib.Omega.{arith}
-use lib.ListN.{length, getD, take, drop, length-append}
+use lib.ListN.{length, take, drop, length-append}
 use Rattle.std.proofs.shelf.Lists.{take-at, drop-at}
-use Rattle.network.specs.Checks.{Check, check, First, Passed}
+use Rattle.network.specs.Checks.{Check, First, Passed}
 use Rattle.network.specs.declared.register.Circuit.{Circuit}
 use Rattle.network.specs.Network.{Sound}
 use Rattle.network.specs.Routes.{Each}
-use Rattle.network.specs.Image.{be16, be32, at16, at32, PL, CT, EN, place-bytes, circuit-bytes, end-bytes, concat, records-bytes, Repeats, Different, Name, BadEnds, BadFigures, Records, Image, Marked, mark-checks, size, place-checks, told, circuit-checks, end-checks, Fault, Refused}
+use Rattle.network.specs.Image.{PL, CT, EN, place-bytes, circuit-bytes, end-bytes, concat, records-bytes, Repeats, Different, Name, BadEnds, BadFigures, Records, Image, Marked, mark-checks, place-checks, told, circuit-checks, end-checks, Fault, Refused}
 use Rattle.network.proofs.Figures.{two-of, four-of, same16, same32}
 use Rattle.network.proofs.Walk.{Longer, Walked, walk}
 

@@ -2,18 +2,18 @@
 use mathlib.Core.Path.{_≡_, refl, sym, ap, subst, _∙_}
 use mathlib.Core.List.{List, [], _∷_, _++_, map, append-assoc}
 use mathlib.Core.Logic.{_⊎_, inl, inr, ⊎-elim}
-use Prim.Native.Nat.{ℕ, _+_, _*_, _/_, _%_, _<_, _≤_, zero, suc}
+use Prim.Native.Nat.{ℕ, _+_, _<_, _≤_, zero, suc}
 use native.Mathlib.Omega.{arith}
 use lib.ListN.{length, getD, take, drop, length-append}
-use Rattle.std.proofs.shelf.Lists.{append-nil, drop-at, drop-drop, drop-more, drop-all, take-append-drop, length-take-le, length-drop, length-push, getD-drop}
-use Rattle.std.proofs.shelf.Tests.{cases-lt, cases-eq}
-use Rattle.network.specs.Checks.{Check, check, First, Passed}
+use Rattle.std.proofs.shelf.Lists.{append-nil, drop-drop, drop-more, drop-all, take-append-drop, length-take-le, length-drop, length-push, getD-drop}
+use Rattle.std.proofs.shelf.Tests.{cases-lt}
+use Rattle.network.specs.Checks.{First, Passed}
 use Rattle.network.specs.declared.register.Circuit.{Circuit}
 use Rattle.network.specs.Network.{Sound}
 use Rattle.network.specs.Routes.{Each}
-use Rattle.network.specs.Image.{be16, be32, at16, at32, PL, CT, EN, place-bytes, circuit-bytes, end-bytes, concat, records-bytes, Repeats, Different, Name, BadEnds, BadFigures, Records, Image, Marked, mark-checks, size, place-checks, told, circuit-checks, end-checks, Fault, Refused}
+use Rattle.network.specs.Image.{at16, PL, CT, EN, place-bytes, circuit-bytes, end-bytes, concat, records-bytes, Repeats, Different, Name, BadEnds, BadFigures, Records, Image, Marked, mark-checks, size, place-checks, told, circuit-checks, end-checks, Fault, Refused}
 use Rattle.network.specs.Claims.{At}
-use Rattle.network.proofs.Figures.{two, four, be16-two, be32-four}
+use Rattle.network.proofs.Figures.{be16-two, be32-four}
 
 abbrev pub Bytes : List ℕ → Type 0
 Bytes xs = Each (λ b. b < 256) xs

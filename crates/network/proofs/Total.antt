@@ -1,16 +1,15 @@
 -- Every list of bytes is an image or is refused.
-use mathlib.Core.Path.{_≡_, refl, sym, ap, subst, _∙_}
-use mathlib.Core.List.{List, [], _∷_, _++_, map, append-assoc}
+use mathlib.Core.Path.{_≡_, refl, ap, _∙_}
+use mathlib.Core.List.{List, [], _∷_, _++_}
 use mathlib.Core.Logic.{_⊎_, inl, inr, ⊎-elim}
-use Prim.Native.Nat.{ℕ, _+_, _*_, _<_, _≤_, zero, suc}
+use Prim.Native.Nat.{ℕ, _+_, _<_, _≤_, zero, suc}
 use native.Mathlib.Omega.{arith}
 use lib.ListN.{length, getD, take, drop, length-append}
-use Rattle.std.proofs.shelf.Lists.{length-drop, nil-from-length}
+use Rattle.std.proofs.shelf.Lists.{nil-from-length}
 use Rattle.std.proofs.shelf.Tests.{cases-lt, cases-eq}
-use Rattle.network.specs.Checks.{Check, check, First, Passed}
+use Rattle.network.specs.Checks.{Check, First, Passed}
 use Rattle.network.specs.declared.register.Circuit.{Circuit}
-use Rattle.network.specs.Network.{Sound}
-use Rattle.network.specs.Image.{at16, PL, CT, EN, end-bytes, records-bytes, Repeats, BadEnds, BadFigures, Records, Image, Marked, mark-checks, size, place-checks, told, circuit-checks, end-checks, Fault, Refused}
+use Rattle.network.specs.Image.{at16, PL, CT, EN, records-bytes, Repeats, BadEnds, BadFigures, Marked, mark-checks, place-checks, told, circuit-checks, end-checks, Fault}
 use Rattle.network.specs.Claims.{Loads, Fails, Outcome, At}
 use Rattle.network.proofs.Steps.{Bytes, each-read, at-start, sound-told, place-step, circuit-step, end-step, refuse, told-name}
 

@@ -1,14 +1,12 @@
 -- What code reads at an offset, as the checks say it.
-use mathlib.Core.Path.{_≡_, refl, sym, ap, subst, _∙_}
-use mathlib.Core.List.{List, [], _∷_, _++_}
-use mathlib.Core.Logic.{_⊎_, inl, inr}
-use Prim.Native.Nat.{ℕ, _+_, _-_, _*_, _<_, _≤_}
+use mathlib.Core.Path.{_≡_, refl, ap}
+use mathlib.Core.List.{List, [], _∷_}
+use Prim.Native.Nat.{ℕ, _+_, _-_, _≤_}
 use native.Mathlib.Omega.{arith}
-use native.Mathlib.Nat.{add-zero}
 use lib.ListN.{length, getD, take, drop}
 use Rattle.std.proofs.shelf.Lists.{getD-drop, drop-drop, drop-more, length-drop}
 use Rattle.network.specs.declared.register.Circuit.{Circuit}
-use Rattle.network.specs.Image.{at16, at32, PL, CT, EN, Marked, size, told}
+use Rattle.network.specs.Image.{at16, at32, Marked, size, told}
 use Rattle.network.proofs.Figures.{at16-drop, at32-drop}
 use Rattle.network.proofs.Readings.{same-circuit}
 use Rattle.network.proofs.Steps.{told-name}

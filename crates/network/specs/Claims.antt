@@ -6,7 +6,7 @@ use mathlib.Core.Logic.{_⊎_}
 use Prim.Native.Nat.{ℕ, _+_, _<_}
 use Rattle.network.specs.declared.register.Circuit.{Circuit}
 use Rattle.network.specs.Routes.{Each}
-use Rattle.network.specs.Image.{Image, Refused, Records, records-bytes, Marked, EN}
+use Rattle.network.specs.Image.{Image, Refused, Records, records-bytes}
 
 abbrev pub OneReading : Type 0
 OneReading = (bytes : List ℕ) (names names′ : List (List ℕ)) (circuits circuits′ : List Circuit) → Image bytes names circuits → Image bytes names′ circuits′ → (names ≡ names′) × (circuits ≡ circuits′)
@@ -39,9 +39,3 @@ pub record At (bytes : List ℕ) (names : List (List ℕ)) (circuits : List Circ
   pub records : Records names circuits
   pub before : bytes ≡ records-bytes names circuits ++ drop offset bytes
   pub at : offset ≡ length (records-bytes names circuits)
-
--- and an end mark stands there, after that many records
-pub record EndHere (bytes : List ℕ) (names : List (List ℕ)) (circuits : List Circuit) (offset records : ℕ) : Type 0 where
-  pub here : At bytes names circuits offset
-  pub count : records ≡ length names + length circuits
-  pub mark : Marked names circuits (drop offset bytes) EN

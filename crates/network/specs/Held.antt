@@ -2,18 +2,17 @@
 use mathlib.Core.Path.{_≡_, subst}
 use mathlib.Core.List.{List, [], _∷_, List·isSet}
 use mathlib.Core.Logic.{∥∥₁-elim}
-use mathlib.Core.HLevel.{Unit-prop, ¬-prop, ×-prop}
-use Prim.Native.Nat.{ℕ, zero, suc, _+_, _*_, _<_, _≤_}
+use mathlib.Core.HLevel.{Unit-prop, ¬-prop}
+use Prim.Native.Nat.{ℕ, _+_, _*_, _<_, _≤_}
 use native.Mathlib.Bridge.{le-prop}
 use native.Mathlib.Nat.{ℕ-set}
-use native.Mathlib.Omega.{arith}
 use lib.ListN.{length, getD}
 use Rattle.std.proofs.shelf.Counted.{length-map-counting}
 use Rattle.network.specs.declared.layout.Layout.{Layout}
 use Rattle.network.specs.declared.register.Circuit.{Circuit}
 use Rattle.network.specs.Network.{Network, Sound, Proper, circuit, no-circuit}
 use Rattle.network.specs.Routes.{Each, each-at}
-use Rattle.network.specs.Image.{Name, Repeats, Different, Records, Image}
+use Rattle.network.specs.Image.{Name, Different, Records, Image}
 use Rattle.network.specs.Layout.{name-from, place-offset, names-in, circuit-from, circuits-in, network-in, end-of, ImageOf}
 
 -- the image that a register holds is that of its places and circuits, which stand as the layout says

@@ -1,13 +1,12 @@
 -- The register image: which bytes stand for which records, and what a load refuses. Assumes nothing.
 use mathlib.Core.Path.{_≡_}
 use mathlib.Core.List.{List, [], _∷_, _++_, map}
-use mathlib.Core.Bool.{Bool, true, false}
 use mathlib.Core.Logic.{_⊎_}
-use Prim.Native.Nat.{ℕ, _+_, _*_, _/_, _%_, _<_, _≤_, _^_}
+use Prim.Native.Nat.{ℕ, _+_, _*_, _/_, _%_, _<_, _≤_}
 use lib.ListN.{length, getD, take, drop}
 use Rattle.network.specs.Checks.{Check, check, First, Passed}
 use Rattle.network.specs.declared.register.Circuit.{Circuit}
-use Rattle.network.specs.Network.{Network, Sound}
+use Rattle.network.specs.Network.{Sound}
 use Rattle.network.specs.Routes.{Each}
 
 -- big-endian figures

@@ -1,7 +1,7 @@
 -- Where the records of an image stand, and what the bytes there say. Assumes nothing.
 use mathlib.Core.Path.{_≡_}
-use mathlib.Core.List.{List, [], _∷_, map}
-use Prim.Native.Nat.{ℕ, zero, suc, _+_, _*_, _<_, _≤_}
+use mathlib.Core.List.{List, map}
+use Prim.Native.Nat.{ℕ, zero, suc, _+_, _*_, _≤_}
 use lib.ListN.{length, getD, take, drop}
 use Rattle.std.specs.Iters.{counting}
 use Rattle.network.specs.declared.layout.Layout.{Layout}

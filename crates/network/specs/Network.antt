@@ -1,6 +1,6 @@
 -- A network: a number of places, and directed circuits between them. Assumes nothing.
 use mathlib.Core.Path.{_≡_}
-use mathlib.Core.List.{List, [], _∷_}
+use mathlib.Core.List.{List}
 use Prim.Native.Nat.{ℕ, _<_, _≤_}
 use lib.ListN.{length, getD}
 use Rattle.network.specs.declared.register.Circuit.{Circuit}

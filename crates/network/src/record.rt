@@ -1,7 +1,7 @@
 // The records of an image, one after the other.
 ghost use mathlib.Core.Path.{_≡_};
 ghost use mathlib.Core.List.{[], _∷_};
-ghost use Prim.Native.Nat.{ℕ, _+_, _-_, _≤_};
+ghost use Prim.Native.Nat.{_+_, _-_};
 ghost use Rattle.std.specs.Options.{Cases};
 ghost use Rattle.network.specs.Held.{Held};
 ghost use Rattle.network.specs.Reading.{Next, told-by, told-after};

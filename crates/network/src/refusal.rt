@@ -1,6 +1,5 @@
 // Why an order is declined: each reason has a number and a word.
 ghost use mathlib.Core.Path.{_≡_};
-ghost use lib.Chars.{codes};
 ghost use Rattle.network.specs.Refusals.{number-of, word-of};
 use std::fmt;
 

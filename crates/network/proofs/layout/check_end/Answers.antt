@@ -1,5 +1,4 @@
 use mathlib.Core.Path.{sym, _∙_}
-use native.Mathlib.Omega.{arith}
 use Rattle.network.specs.declared.refusal.Refusal.the-variants as refusal
 use Rattle.network.proofs.Loading.{refused-by, end-cut, end-wrong, complete}
 use Rattle.network.proofs.layout.check_end.Needs as need

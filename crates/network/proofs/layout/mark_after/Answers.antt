@@ -1,4 +1,3 @@
-use native.Mathlib.Omega.{arith}
 use Rattle.std.proofs.shelf.Ways.{not-from-decides}
 use Rattle.network.specs.declared.refusal.Refusal.the-variants as refusal
 use Rattle.network.proofs.Loading.{refused-by, mark-short, mark-unknown}

@@ -3,7 +3,7 @@ use mathlib.Core.List.{List}
 use Prim.Native.Nat.{ℕ, _+_, _<_, _≤_}
 use native.Mathlib.Omega.{arith}
 use native.Mathlib.Nat.{add-assoc}
-use lib.ListN.{length, getD, take, drop}
+use lib.ListN.{getD, take, drop}
 use borrow.Author.Count.{below-more}
 use Rattle.std.proofs.shelf.Tests.{false≢true}
 use Rattle.network.specs.Layout.{place-offset, after-place, name-from}

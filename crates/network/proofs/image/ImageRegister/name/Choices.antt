@@ -1,4 +1,4 @@
-use Prim.Native.Nat.{_<_, _≤_}
+use Prim.Native.Nat.{_≤_}
 use mathlib.Core.Path.{_≡_}
 use Rattle.network.specs.Layout.{after-place, place-offset}
 use Rattle.network.proofs.image.ImageRegister.name.Given as given
