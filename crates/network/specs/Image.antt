@@ -23,6 +23,7 @@ at16 bs i = getD bs i 0 * 256 + getD bs (i + 1) 0
 abbrev pub at32 : List ℕ → ℕ → ℕ
 at32 bs i = at16 bs i * 65536 + at16 bs (i + 2)
 
+-- the marks of a place, a circuit and the end, in ASCII
 abbrev pub PL : List ℕ
 PL = 80 ∷ 76 ∷ []
 
@@ -32,15 +33,19 @@ CT = 67 ∷ 84 ∷ []
 abbrev pub EN : List ℕ
 EN = 69 ∷ 78 ∷ []
 
+-- a place's record: its mark, the length of its name, its name
 abbrev pub place-bytes : List ℕ → List ℕ
 place-bytes name = PL ++ (length name ∷ []) ++ name
 
+-- a circuit's record: its mark and its four figures
 abbrev pub circuit-bytes : Circuit → List ℕ
 circuit-bytes c = CT ++ be16 (c .from) ++ be16 (c .to) ++ be32 (c .bandwidth) ++ be32 (c .cost)
 
+-- the end's record: its mark, and how many records come before it
 abbrev pub end-bytes : ℕ → List ℕ
 end-bytes records = EN ++ be16 records
 
+-- lists one after the other
 abbrev pub concat : List (List ℕ) → List ℕ
 concat [] = []
 concat (x ∷ xs) = x ++ concat xs
@@ -49,14 +54,17 @@ concat (x ∷ xs) = x ++ concat xs
 abbrev pub records-bytes : List (List ℕ) → List Circuit → List ℕ
 records-bytes names circuits = concat (map place-bytes names) ++ concat (map circuit-bytes circuits)
 
+-- the name is one of the others
 abbrev pub Repeats : List ℕ → List (List ℕ) → Type 0
 Repeats name [] = ⊥
 Repeats name (x ∷ xs) = (name ≡ x) ⊎ Repeats name xs
 
+-- no name stands twice
 abbrev pub Different : List (List ℕ) → Type 0
 Different [] = Unit {0}
 Different (x ∷ xs) = (Repeats x xs → ⊥) × Different xs
 
+-- a name has 1 to 16 bytes
 abbrev pub Name : List ℕ → Type 0
 Name name = (1 ≤ length name) × (length name ≤ 16)
 
@@ -64,6 +72,7 @@ Name name = (1 ≤ length name) × (length name ≤ 16)
 abbrev pub BadEnds : ℕ → Circuit → Type 0
 BadEnds places c = (places ≤ c .from) ⊎ ((places ≤ c .to) ⊎ (c .from ≡ c .to))
 
+-- a bandwidth of nothing or above 64,000,000 kbit/s, or a cost above 1,000,000
 abbrev pub BadFigures : Circuit → Type 0
 BadFigures c = (c .bandwidth < 1) ⊎ ((64000000 < c .bandwidth) ⊎ (1000000 < c .cost))
 
@@ -82,9 +91,11 @@ pub record Image (bytes : List ℕ) (names : List (List ℕ)) (circuits : List C
 
 -- the checks at the record that begins `rest`, after those names and circuits
 module _ (names : List (List ℕ)) (circuits : List Circuit) (rest : List ℕ) where
+  -- that mark stands there
   abbrev pub Marked : List ℕ → Type 0
   Marked mark = take 2 rest ≡ mark
 
+  -- short, or a mark that is none of the three
   abbrev pub mark-checks : List Check
   mark-checks = check 1 (length rest < 2) ∷ check 2 ((Marked PL ⊎ (Marked CT ⊎ Marked EN)) → ⊥) ∷ []
 
@@ -92,6 +103,7 @@ module _ (names : List (List ℕ)) (circuits : List Circuit) (rest : List ℕ) w
   abbrev pub size : ℕ
   size = getD rest 2 0
 
+  -- a place after a circuit, one too many, cut short before its length, of a wrong length, cut short, a name again
   abbrev pub place-checks : List Check
   place-checks =
       check 4 (1 ≤ length circuits)
@@ -106,6 +118,7 @@ module _ (names : List (List ℕ)) (circuits : List Circuit) (rest : List ℕ) w
   abbrev pub told : Circuit
   told = record { from = at16 rest 2; to = at16 rest 4; bandwidth = at32 rest 6; cost = at32 rest 10 }
 
+  -- one too many, cut short, bad ends, bad figures
   abbrev pub circuit-checks : List Check
   circuit-checks =
       check 7 (384 ≤ length circuits)
@@ -114,6 +127,7 @@ module _ (names : List (List ℕ)) (circuits : List Circuit) (rest : List ℕ) w
       ∷ check 6 (BadFigures told)
       ∷ []
 
+  -- cut short, a wrong count or bytes after it
   abbrev pub end-checks : List Check
   end-checks =
       check 1 (length rest < 4)

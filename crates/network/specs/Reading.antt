@@ -3,6 +3,8 @@ use mathlib.Core.Path.{_≡_}
 use mathlib.Core.List.{List, [], _∷_, _++_, map}
 use Prim.Native.Nat.{ℕ, _+_, _≤_}
 use lib.ListN.{length, drop}
+use Rattle.std.specs.declared.option.Option.{Option}
+use Rattle.std.specs.declared.option.Option.the-variants.{Some, None}
 use Rattle.network.specs.declared.layout.Layout.{Layout}
 use Rattle.network.specs.declared.record.Record.{Record}
 use Rattle.network.specs.declared.record.Record.the-variants as record-of
@@ -29,6 +31,11 @@ all-told names circuits = map place names ++ (map circuit circuits ++ (end (leng
 -- those that are left of the records that stand so, after so many
 abbrev pub told-after : List ℕ → Layout → ℕ → List Told
 told-after bytes l given = drop given (all-told (names-in bytes (l .places)) (circuits-in bytes (l .first) (l .circuits)))
+
+-- what a reader gives, and what is left before and after: the first that is left, or nothing where none is left
+abbrev pub Gives : List Told → Option Record → List Told → Type 0
+Gives before None after = (before ≡ []) × (after ≡ [])
+Gives before (Some r) after = before ≡ told-by r ∷ after
 
 -- these are the records of the image that the bytes are, all of them
 pub record Tells (bytes : List ℕ) (told : List Told) : Type 0 where

@@ -1,10 +1,8 @@
 // The records of an image, one after the other.
 ghost use mathlib.Core.Path.{_≡_};
-ghost use mathlib.Core.List.{[], _∷_};
 ghost use Prim.Native.Nat.{_+_, _-_};
-ghost use Rattle.std.specs.Options.{Cases};
 ghost use Rattle.network.specs.Held.{Held};
-ghost use Rattle.network.specs.Reading.{Next, told-by, told-after};
+ghost use Rattle.network.specs.Reading.{Next, Gives, told-after};
 use super::figure::CIRCUIT_BYTES;
 use super::figure::read_circuit;
 use super::figure::read_name;
@@ -49,7 +47,8 @@ impl<'a> Records<'a> {
 pub impl<'a> Iterator for Records<'a> as RecordsIterator {
     type Item = Record<'a>;
 
-    ghost steps = { λ s r t. (t .image ≡ s .image) × (t .layout ≡ s .layout) × Cases r ((t ≡ s) × (told-after (s .image .now) (s .layout) (s .given) ≡ [])) (λ x. told-after (s .image .now) (s .layout) (s .given) ≡ told-by x ∷ told-after (t .image .now) (t .layout) (t .given)) };
+    // It gives the records that are left, in their order, and stays over the same image.
+    ghost steps = { λ s r t. (t .image ≡ s .image) × (t .layout ≡ s .layout) × Gives (told-after (s .image .now) (s .layout) (s .given)) r (told-after (t .image .now) (t .layout) (t .given)) };
 
     ghost ends = { λ _. Unit {0} };
 

@@ -51,4 +51,5 @@ returns-then-number-places-3 c =
 pub returns-else-number-places-3 : need.returns-else-number-places-3
 returns-else-number-places-3 c =
     let s = c .args .self .now in
-    record { steps = (refl, refl, (refl, nothing-told (s .image .now) (s .layout) (s .given) (omega arith))); goes = record { on = λ _. tt } }
+    let none = nothing-told (s .image .now) (s .layout) (s .given) (omega arith) in
+    record { steps = (refl, refl, (none, none)); goes = record { on = λ _. tt } }
