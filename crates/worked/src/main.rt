@@ -44,7 +44,10 @@ fn tell(
             }
             let first = &first[0..n];
             let second = &second[0..m];
-            println!(rt, "{asked}: rate {rate}, cost {cost}, routes {first:?} and {second:?}")
+            println!(
+                rt,
+                "{asked}: rate {rate}, cost {cost}, routes {first:?} and {second:?}"
+            )
         }
         Err(refusal) => println!(rt, "{asked}: refused {refusal}"),
     }
@@ -91,7 +94,13 @@ fn booking(rt: &LibcRuntime) -> Result<(), AnyError> {
         mode: Mode::OneToOne,
     };
     let booked = book.book(7, ask, 0, &mut first, &mut second);
-    tell(rt, "book feed 7 from 0 to 3, 20,000 in 1:1, limit 0", booked, &first, &second)?;
+    tell(
+        rt,
+        "book feed 7 from 0 to 3, 20,000 in 1:1, limit 0",
+        booked,
+        &first,
+        &second,
+    )?;
     tell_left(rt, &book)?;
     tell_done(rt, "notice 1 closes circuit 3", book.close(1, 3))?;
     tell_done(rt, "notice 2 closes circuit 3", book.close(2, 3))?;
@@ -133,8 +142,16 @@ fn load(rt: &LibcRuntime, asked: &str, image: &[u8]) -> io::Result<()> {
 
 fn main(rt: LibcRuntime) -> Result<(), AnyError> {
     booking(&rt)?;
-    one_circuit(&rt, "one circuit of bandwidth 1, widest in 1+1 within its cost", 1)?;
-    one_circuit(&rt, "one circuit of bandwidth 7, widest in 1+1 within its cost", 7)?;
+    one_circuit(
+        &rt,
+        "one circuit of bandwidth 1, widest in 1+1 within its cost",
+        1,
+    )?;
+    one_circuit(
+        &rt,
+        "one circuit of bandwidth 7, widest in 1+1 within its cost",
+        7,
+    )?;
     load(
         &rt,
         "the image of 26 bytes",
