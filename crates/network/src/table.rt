@@ -12,15 +12,9 @@ ghost use Rattle.network.specs.Table.{table, GoodEnds, GoodFigures, table-prop
 use super::refusal::LoadRefusal;
 use super::refusal::Refusal;
 use super::register::Circuit;
+use super::register::MOST_CIRCUITS;
+use super::register::MOST_PLACES;
 use super::register::Register;
-
-const MOST_PLACES: u32 = 128;
-
-const MOST_CIRCUITS: usize = 384;
-
-const MOST_BANDWIDTH: u32 = 64_000_000;
-
-const MOST_COST: u32 = 1_000_000;
 
 // A number of places, and the circuits between them, in the order of their numbers.
 #[derive(Drop)]
@@ -51,7 +45,7 @@ impl<'a> TableRegister<'a> {
     pub fn load(&mut self, places: u32, circuits: &'a [Circuit]) -> Result<(), LoadRefusal>
         ensures { λ r. ⌜ elim r [ Ok _ ↦ Proper (table places (now (circuits .entry))) × (table (now (self .exit) .places) (now (now (self .exit) .circuits)) ≡ table places (now (circuits .entry))) | Err e ↦ Refused (table places (now (circuits .entry))) (number-of (e .refusal)) (e .at) × (now (self .exit) ≡ now (self .entry)) ] ⌝ }
     {
-        if places > MOST_PLACES || circuits.len() > MOST_CIRCUITS {
+        if places > MOST_PLACES as u32 || circuits.len() > MOST_CIRCUITS as usize {
             return Err(LoadRefusal {
                 refusal: Refusal::Full,
                 at: 0,
@@ -72,10 +66,10 @@ impl<'a> TableRegister<'a> {
 fn fault(places: u16, circuit: Circuit) -> Option<Refusal>
     ensures { λ r. ⌜ elim r [ None ↦ Sound places circuit | Some e ↦ First (number-of e) (circuit-checks places circuit) ] ⌝ }
 {
-    if circuit.from >= places || circuit.to >= places || circuit.from == circuit.to {
+    if circuit.bad_ends(places) {
         return Some(Refusal::Ends);
     }
-    if circuit.bandwidth < 1 || circuit.bandwidth > MOST_BANDWIDTH || circuit.cost > MOST_COST {
+    if circuit.bad_figures() {
         return Some(Refusal::Figure);
     }
     None
