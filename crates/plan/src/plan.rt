@@ -72,7 +72,8 @@ pub fn shared_cost<R: Register, S: Scale>(register: &R, first: &Route, second: &
     let in_second = marks(second);
     let mut cost = S::zero();
     for c in 0..register.circuits() {
-        if in_first[c as usize] && in_second[c as usize] {
+        let shared = in_first[c as usize] & in_second[c as usize];
+        if shared {
             cost = S::join(cost, S::weight(circuit_at(register, c).cost));
         }
     }
