@@ -13,14 +13,15 @@ loop-again g c =
     let low = c .loop .low in
     let high = c .loop .high in
     let width = c .loop .inv .0 in
+    let more : i < 20 = omega arith in
     let gap : low + 1 < high = omega arith in
     elim (c .match-safest-within .came) [
       | in-Ok w ↦
           simp (w .low-is, w .high-is, w .best-is, w .refusal-is)
-          (width-up i low high (c .loop-test .taken) gap width, λ keeps. raised _ _ _ _ _ _ _ _ _ _ _ _ _ _ (omega arith) (w .in-Ok .ensures tt keeps) (c .loop .inv .1 keeps))
+          (width-up i low high more gap width, λ keeps. raised _ _ _ _ _ _ _ _ _ _ _ _ _ _ (omega arith) (w .in-Ok .ensures tt keeps) (c .loop .inv .1 keeps))
       | in-Err w ↦
           simp (w .low-is, w .high-is, w .best-is, w .refusal-is)
-          (width-down i low high (c .loop-test .taken) gap width, λ keeps. lowered _ _ _ _ _ _ _ _ _ _ _ _ _ _ (w .in-Err .ensures tt keeps) (c .loop .inv .1 keeps))
+          (width-down i low high more gap width, λ keeps. lowered _ _ _ _ _ _ _ _ _ _ _ _ _ _ (w .in-Err .ensures tt keeps) (c .loop .inv .1 keeps))
     ]
 
 -- the loop ends with no rate between the two
