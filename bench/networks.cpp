@@ -28,7 +28,9 @@ void add(std::vector<Arc> &arcs, Random &random, uint16_t from, uint16_t to) {
 std::vector<Arc> even(Random &random) {
     std::vector<Arc> arcs;
     while (arcs.size() < ARCS) {
-        add(arcs, random, place(random, 0, PLACES), place(random, 0, PLACES));
+        uint16_t from = place(random, 0, PLACES);
+        uint16_t to = place(random, 0, PLACES);
+        add(arcs, random, from, to);
     }
     return arcs;
 }
@@ -37,7 +39,8 @@ std::vector<Arc> even(Random &random) {
 std::vector<Arc> regions(Random &random) {
     std::vector<Arc> arcs;
     for (size_t r = 0; r + 16 < PLACES; r += 16) {
-        for (size_t k = 0; k < 1 + random() % 2; k++) {
+        size_t links = 1 + random() % 2;
+        for (size_t k = 0; k < links; k++) {
             uint16_t from = place(random, r, 16);
             uint16_t to = place(random, r + 16, 16);
             arcs.push_back({from, to, uint8_t(random() % 8 ? 2 : 1)});
@@ -46,7 +49,9 @@ std::vector<Arc> regions(Random &random) {
     }
     while (arcs.size() < ARCS) {
         size_t r = 16 * (random() % (PLACES / 16));
-        add(arcs, random, place(random, r, 16), place(random, r, 16));
+        uint16_t from = place(random, r, 16);
+        uint16_t to = place(random, r, 16);
+        add(arcs, random, from, to);
     }
     return arcs;
 }
