@@ -13,6 +13,12 @@ use crate::forms::statement;
 use crate::limit::Limit;
 use crate::statement::Statement;
 
+// What begins a comment.
+const COMMENT: u8 = b'#';
+
+// One more word than the longest statement has, so that a longer line is seen to be one.
+const MAX_WORDS: usize = 8;
+
 // Whether the byte is a blank.
 fn is_blank(b: u8) -> bool
     ensures { λ r. ⌜ Decides r (Blank b) ⌝ }
@@ -26,7 +32,7 @@ fn word_start(line: &[u8], at: usize) -> Option<usize>
     ensures { λ r. ⌜ elim r [ None ↦ Splits (drop at (now (line .entry))) [] | Some i ↦ (at ≤ i) × (i < length (now (line .entry))) × ((k : ℕ) → at ≤ k → k < i → Blank (getD (now (line .entry)) k 0)) × Inner (getD (now (line .entry)) i 0) ] ⌝ }
 {
     for i in at..line.len() {
-        if line[i] == b'#' {
+        if line[i] == COMMENT {
             return None;
         }
         if !is_blank(line[i]) {
@@ -45,7 +51,7 @@ fn word_end(line: &[u8], start: usize) -> usize
 {
     for i in start..line.len() {
         let b = line[i];
-        if b == b'#' {
+        if b == COMMENT {
             return i;
         }
         if is_blank(b) {
@@ -67,15 +73,15 @@ fn next_word(line: &[u8], at: usize) -> Option<(usize, usize)>
     Some((start, end))
 }
 
-// What the line says: the words of it mean the statement, and at a fault they mean none. `names` are the names of the
-// places in order. Past the most words of a statement one more is read, so that a longer line is seen to be one.
+// What the line says: its words mean the statement, and at a fault they mean none. `names` are the names of the places in
+// order.
 pub fn read<S: Limit>(line: &[u8], names: &[&[u8]]) -> Result<Statement<S::Value>, Fault>
     ensures { λ r. ⌜ Reads r (Line-means (S·Limit .spells) (texts (now (names .entry))) (now (line .entry))) ⌝ }
 {
-    let mut words: [&[u8]; 8] = [line; 8];
+    let mut words: [&[u8]; MAX_WORDS] = [line; MAX_WORDS];
     let mut count = 0;
     let mut at = 0;
-    while count < 8 {
+    while count < MAX_WORDS {
         let Some((start, end)) = next_word(line, at) else {
             break;
         };

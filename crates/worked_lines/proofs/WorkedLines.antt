@@ -12,7 +12,7 @@ use Rattle.scale.specs.ThreeScales.{total, worst, tally, most}
 use Rattle.promise.specs.Ledger.{nothing-yet}
 use Rattle.worked_lines.specs.Lines.{Line, Lines, Only, Leads-to}
 use Rattle.worked_lines.specs.Worked.{worked, feed-7, total-lines, worst-lines, tally-lines, Worked-lines, Only-these}
-use Rattle.worked_lines.specs.Further.{single, wide, ring, feed-9, further-lines, worst-further, tally-further, single-1-lines, single-7-lines, wide-lines, ring-lines, ring-wrong, Further-lines, worked-routes, worked-no-routes, worked-no-way, ring-routes, ring-no-routes, worked-choices, worked-no-choices, total-shares, worst-shares, tally-shares, Route-lines, total-figures, worst-figures, tally-figures, Scale-lines, first-run, second-run, third-run, fourth-run, wrong-first, wrong-later, wrong-after, steps, Run-lines}
+use Rattle.worked_lines.specs.Further.{single, wide, ring, feed-9, further-lines, worst-further, worst-wrong, tally-further, single-1-lines, single-7-lines, wide-lines, ring-lines, ring-wrong, Further-lines, worked-routes, worked-no-routes, worked-no-way, ring-routes, ring-no-routes, worked-choices, worked-no-choices, total-shares, worst-shares, tally-shares, Route-lines, total-figures, worst-figures, tally-figures, Scale-lines, first-run, second-run, third-run, fourth-run, wrong-first, wrong-later, wrong-after, steps, Run-lines}
 use Rattle.scale.proofs.ThreeScalesLawful.{pairs, total-lawful, worst-lawful, tally-lawful}
 use Rattle.worked_lines.proofs.AnswerTest.{Told-by}
 use Rattle.worked_lines.proofs.AnswerTestSound.{Told-right}
@@ -46,6 +46,7 @@ further-tests =
     ∷ lines? number total wide wide-lines
     ∷ lines? number total ring ring-lines
     ∷ wrong? number total ring ring-wrong
+    ∷ wrong? number worst worked worst-wrong
     ∷ []
 
 abbrev route-tests : List Bool
@@ -160,6 +161,7 @@ further = record {
   at-wide = hold number total wide (total-told wide (proper-pass 3)) wide-lines (further-pass 5);
   at-ring = hold number total ring (total-told ring (proper-pass 4)) ring-lines (further-pass 6);
   wrong-at-ring = wrong-sound number total ring ring-wrong (further-pass 7);
+  wrong-by-worst = wrong-sound number worst worked worst-wrong (further-pass 8);
 }
 
 pub routes-and-sets : Route-lines

@@ -55,104 +55,104 @@ noticed k = notices-only (many-notices k)
 
 -- Lines by total on the worked network.
 
--- what a standing feed takes where both routes run: in 1:1 mode the rate once, in 1+1 mode twice
+-- what standing feeds take
 abbrev taken-lines : List (Line ℕ)
 taken-lines =
-    line (standing 8 20000 OneToOne lower lower) (ask 20000 OneToOne) (pair 20000 upper across 3)
-    ∷ line (standing 9 10000 OnePlusOne lower lower) (ask 10001 OneToOne) (pair 10001 upper across 3)
+    line (standing 8 20000 OneToOne lower lower) (ask 20000 OneToOne) (pair 20000 upper across 3)  -- 1:1 takes the rate once where both routes run
+    ∷ line (standing 9 10000 OnePlusOne lower lower) (ask 10001 OneToOne) (pair 10001 upper across 3)  -- 1+1 takes it twice there
     ∷ []
 
 -- a closed circuit is used by no route, whichever of the notices names it; the notice's own number closes nothing
 abbrev closed-lines : List (Line ℕ)
 closed-lines =
     line closed-2 (ask 20000 OneToOne) (pair 20000 lower across 4)
-    ∷ line (notices-only (notice 1 4 ∷ notice 3 2 ∷ [])) (ask 20000 OneToOne) (pair 20000 lower lower 9)
-    ∷ line (notices-only (notice 3 2 ∷ notice 1 4 ∷ [])) (ask 20000 OneToOne) (pair 20000 lower lower 9)
+    ∷ line (notices-only (notice 1 4 ∷ notice 3 2 ∷ [])) (ask 20000 OneToOne) (pair 20000 lower lower 9)  -- closed by the second notice
+    ∷ line (notices-only (notice 3 2 ∷ notice 1 4 ∷ [])) (ask 20000 OneToOne) (pair 20000 lower lower 9)  -- closed by the first
     ∷ []
 
--- safest: places unknown or the same, rates at the lower bound, short lists; then each check before the next
+-- safest: each check alone, then each before the next
 abbrev safest-lines : List (Line ℕ)
 safest-lines =
-    line nothing-yet (safest 4 3 1 OneToOne) (refused 13)
-    ∷ line nothing-yet (safest 0 4 1 OneToOne) (refused 13)
-    ∷ line nothing-yet (safest 1 1 1 OneToOne) (refused 13)
-    ∷ line nothing-yet (ask 0 OneToOne) (refused 14)
-    ∷ line nothing-yet (ask 1 OneToOne) (pair 1 upper lower 0)
-    ∷ roomed 126 127 nothing-yet (ask 20000 OneToOne) (refused 15)
-    ∷ roomed 127 126 nothing-yet (ask 20000 OneToOne) (refused 15)
-    ∷ line nothing-yet (safest 0 0 0 OneToOne) (refused 13)
-    ∷ roomed 126 126 nothing-yet (ask 0 OneToOne) (refused 14)
-    ∷ roomed 126 127 nothing-yet (ask 30001 OneToOne) (refused 15)
+    line nothing-yet (safest 4 3 1 OneToOne) (refused 13)  -- the first place is unknown
+    ∷ line nothing-yet (safest 0 4 1 OneToOne) (refused 13)  -- the second is
+    ∷ line nothing-yet (safest 1 1 1 OneToOne) (refused 13)  -- both are the same
+    ∷ line nothing-yet (ask 0 OneToOne) (refused 14)  -- 0 is no rate
+    ∷ line nothing-yet (ask 1 OneToOne) (pair 1 upper lower 0)  -- 1 is
+    ∷ roomed 126 127 nothing-yet (ask 20000 OneToOne) (refused 15)  -- the first list is short
+    ∷ roomed 127 126 nothing-yet (ask 20000 OneToOne) (refused 15)  -- the second is
+    ∷ line nothing-yet (safest 0 0 0 OneToOne) (refused 13)  -- 13 before 14
+    ∷ roomed 126 126 nothing-yet (ask 0 OneToOne) (refused 14)  -- 14 before 15
+    ∷ roomed 126 127 nothing-yet (ask 30001 OneToOne) (refused 15)  -- 15 before 16
     ∷ []
 
 -- widest: each check before the next; no route leads from place 3 to place 0
 abbrev widest-lines : List (Line ℕ)
 widest-lines =
-    roomed 126 126 nothing-yet (widest 0 0 OneToOne 9) (refused 13)
-    ∷ roomed 127 126 nothing-yet (widest 3 0 OneToOne 9) (refused 15)
-    ∷ line nothing-yet (widest 3 0 OneToOne 0) (refused 16)
+    roomed 126 126 nothing-yet (widest 0 0 OneToOne 9) (refused 13)  -- 13 before 15
+    ∷ roomed 127 126 nothing-yet (widest 3 0 OneToOne 9) (refused 15)  -- 15 before 16
+    ∷ line nothing-yet (widest 3 0 OneToOne 0) (refused 16)  -- 16 before 17
     ∷ []
 
--- book: accepted with the limit just met and with 31 feeds standing, however many notices there are; then each check before the next
+-- book: at the limit and at the crowd, then each check before the next
 abbrev book-lines : List (Line ℕ)
 book-lines =
-    line nothing-yet (book 1 0 3 25000 OnePlusOne 4) (pair 25000 lower across 4)
-    ∷ line nothing-yet (book 1 0 3 25000 OnePlusOne 3) (refused 17)
-    ∷ line feed-7 (book 8 0 3 20000 OneToOne 7) (refused 17)
-    ∷ line (crowd 31) (book 32 0 3 1 OneToOne 0) (pair 1 upper lower 0)
-    ∷ line (noticed 32) (book 1 0 3 1 OneToOne 0) (pair 1 upper lower 0)
-    ∷ line (standing 0 1 OneToOne upper lower) (book 0 0 3 1 OneToOne 0) (refused 9)
-    ∷ line (crowd 32) (book 1 0 3 1 OneToOne 0) (refused 10)
-    ∷ line (crowd 32) (book 33 0 0 1 OneToOne 0) (refused 12)
-    ∷ line nothing-yet (book 1 0 0 0 OneToOne 0) (refused 13)
-    ∷ roomed 126 126 nothing-yet (book 1 0 3 0 OneToOne 0) (refused 14)
-    ∷ roomed 127 126 nothing-yet (book 1 0 3 30001 OneToOne 0) (refused 15)
-    ∷ line nothing-yet (book 1 0 3 30001 OneToOne 0) (refused 16)
+    line nothing-yet (book 1 0 3 25000 OnePlusOne 4) (pair 25000 lower across 4)  -- the limit is just met
+    ∷ line nothing-yet (book 1 0 3 25000 OnePlusOne 3) (refused 17)  -- and just missed
+    ∷ line feed-7 (book 8 0 3 20000 OneToOne 7) (refused 17)  -- by what feed 7 left
+    ∷ line (crowd 31) (book 32 0 3 1 OneToOne 0) (pair 1 upper lower 0)  -- a 32nd feed
+    ∷ line (noticed 32) (book 1 0 3 1 OneToOne 0) (pair 1 upper lower 0)  -- notices and their numbers do not count
+    ∷ line (standing 0 1 OneToOne upper lower) (book 0 0 3 1 OneToOne 0) (refused 9)  -- 9 before 10
+    ∷ line (crowd 32) (book 1 0 3 1 OneToOne 0) (refused 10)  -- 10 before 12
+    ∷ line (crowd 32) (book 33 0 0 1 OneToOne 0) (refused 12)  -- 12 before 13
+    ∷ line nothing-yet (book 1 0 0 0 OneToOne 0) (refused 13)  -- 13 before 14
+    ∷ roomed 126 126 nothing-yet (book 1 0 3 0 OneToOne 0) (refused 14)  -- 14 before 15
+    ∷ roomed 127 126 nothing-yet (book 1 0 3 30001 OneToOne 0) (refused 15)  -- 15 before 16
+    ∷ line nothing-yet (book 1 0 3 30001 OneToOne 0) (refused 16)  -- 16 before 17
     ∷ []
 
 -- release: the second feed in the list; number 0, which stands nowhere; a notice's number is no feed's
 abbrev release-lines : List (Line ℕ)
 release-lines = acting feeds-7-9 (release 9) done ∷ acting feed-7 (release 0) (refused 9) ∷ acting feed-7 (release 8) (refused 11) ∷ acting closed-2 (release 1) (refused 11) ∷ []
 
--- close: the last circuit; a circuit closed already; a number that only a feed has; 31 notices; 32 feeds; then each check before the next
+-- close: what is accepted, then each check before the next
 abbrev close-lines : List (Line ℕ)
 close-lines =
-    acting nothing-yet (close 1 4) done
-    ∷ acting closed-2 (close 2 2) done
-    ∷ acting feed-7 (close 7 0) done
-    ∷ acting (noticed 31) (close 32 0) done
-    ∷ acting (crowd 32) (close 33 0) done
-    ∷ acting (notices-only (notice 0 2 ∷ [])) (close 0 2) (refused 9)
-    ∷ acting closed-2 (close 1 5) (refused 10)
-    ∷ acting (noticed 32) (close 33 5) (refused 11)
-    ∷ acting (noticed 32) (close 33 4) (refused 12)
+    acting nothing-yet (close 1 4) done  -- the last circuit
+    ∷ acting closed-2 (close 2 2) done  -- a circuit may be closed twice
+    ∷ acting feed-7 (close 7 0) done  -- a feed's number is no notice's
+    ∷ acting (noticed 31) (close 32 0) done  -- a 32nd notice
+    ∷ acting (crowd 32) (close 33 0) done  -- feeds do not count
+    ∷ acting (notices-only (notice 0 2 ∷ [])) (close 0 2) (refused 9)  -- 9 before 10
+    ∷ acting closed-2 (close 1 5) (refused 10)  -- 10 before 11
+    ∷ acting (noticed 32) (close 33 5) (refused 11)  -- 11 before 12
+    ∷ acting (noticed 32) (close 33 4) (refused 12)  -- a 33rd notice
     ∷ []
 
--- reopen: the second notice in the list; number 0; a circuit's number is no notice's, nor is a feed's
+-- reopen
 abbrev reopen-lines : List (Line ℕ)
 reopen-lines =
-    acting (noticed 2) (reopen 1) done
-    ∷ acting closed-2 (reopen 0) (refused 9)
-    ∷ acting closed-2 (reopen 2) (refused 11)
-    ∷ acting feed-7 (reopen 7) (refused 11)
+    acting (noticed 2) (reopen 1) done  -- the second in the list
+    ∷ acting closed-2 (reopen 0) (refused 9)  -- 9 before 11
+    ∷ acting closed-2 (reopen 2) (refused 11)  -- a circuit's number is no notice's
+    ∷ acting feed-7 (reopen 7) (refused 11)  -- nor is a feed's
     ∷ []
 
 -- what is told of circuits and feeds, and of those that do not exist; the last circuit is number 4
 abbrev tell-lines : List (Line ℕ)
 tell-lines =
-    telling feeds-7-9 (left 3) (told 20000)
+    telling feeds-7-9 (left 3) (told 20000)  -- 50,000 less 20,000 once and 5,000 twice
     ∷ telling nothing-yet (left 4) (told 25000)
-    ∷ telling nothing-yet (left 5) (refused 11)
-    ∷ telling closed-2 (opens 2) (told 0)
-    ∷ telling closed-2 (opens 1) (told 1)
+    ∷ telling nothing-yet (left 5) (refused 11)  -- no such circuit
+    ∷ telling closed-2 (opens 2) (told 0)  -- closed
+    ∷ telling closed-2 (opens 1) (told 1)  -- open
     ∷ telling nothing-yet (opens 5) (refused 11)
     ∷ telling feeds-7-9 (uses 9 3) (told 2)
     ∷ telling feeds-7-9 (uses 9 4) (told 1)
     ∷ telling feeds-7-9 (uses 9 2) (told 0)
     ∷ telling feeds-7-9 (uses 7 2) (told 1)
-    ∷ telling feed-7 (uses 0 2) (refused 9)
-    ∷ telling feed-7 (uses 9 2) (refused 11)
-    ∷ telling feed-7 (uses 7 5) (refused 11)
+    ∷ telling feed-7 (uses 0 2) (refused 9)  -- 9 before 11
+    ∷ telling feed-7 (uses 9 2) (refused 11)  -- no such feed
+    ∷ telling feed-7 (uses 7 5) (refused 11)  -- no such circuit
     ∷ []
 
 abbrev pub further-lines : List (Line ℕ)
@@ -165,14 +165,19 @@ worst-further =
     line nothing-yet (reach OneToOne 3) (pair 20000 upper lower 0)
     ∷ line nothing-yet (reach OneToOne 4) (pair 25000 lower across 4)
     ∷ line nothing-yet (reach OneToOne 5) (pair 30000 lower lower 5)
+    ∷ line (notices-only (notice 1 1 ∷ [])) (ask 15000 OnePlusOne) (pair 15000 upper across 3)
     ∷ []
+
+-- by worst, sharing circuit 2 as well costs no more; but in 1+1 mode it has to carry the rate twice
+abbrev pub worst-wrong : List (Line ℕ)
+worst-wrong = line (notices-only (notice 1 1 ∷ [])) (ask 15000 OnePlusOne) (pair 15000 upper upper 3) ∷ []
 
 abbrev pub tally-further : List (Line (ℕ × ℕ))
 tally-further =
-    line nothing-yet (reach OneToOne (1, 3)) (pair 20000 upper lower (0, 0))
+    line nothing-yet (reach OneToOne (1, 3)) (pair 20000 upper lower (0, 0))  -- one circuit of cost 4 is too dear
     ∷ line nothing-yet (reach OneToOne (1, 4)) (pair 25000 lower across (1, 4))
-    ∷ line nothing-yet (reach OneToOne (2, 0)) (pair 25000 lower across (1, 4))
-    ∷ line nothing-yet (reach OneToOne (2, 8)) (pair 25000 lower across (1, 4))
+    ∷ line nothing-yet (reach OneToOne (2, 0)) (pair 25000 lower across (1, 4))  -- one circuit is fewer than two, at any cost
+    ∷ line nothing-yet (reach OneToOne (2, 8)) (pair 25000 lower across (1, 4))  -- two circuits of cost 9 are too dear
     ∷ line nothing-yet (reach OneToOne (2, 9)) (pair 30000 lower lower (2, 9))
     ∷ []
 
@@ -202,7 +207,7 @@ wide = record { places = 2; circuits = circuit-of 0 1 1000002 6 ∷ circuit-of 0
 abbrev pub wide-lines : List (Line ℕ)
 wide-lines =
     line nothing-yet (safest 0 1 1000000 OnePlusOne) (pair 1000000 (0 ∷ []) (1 ∷ []) 0)
-    ∷ line nothing-yet (safest 0 1 1000001 OnePlusOne) (refused 14)
+    ∷ line nothing-yet (safest 0 1 1000001 OnePlusOne) (refused 14)  -- though both circuits could carry it
     ∷ line nothing-yet (widest 0 1 OnePlusOne 0) (pair 1000000 (0 ∷ []) (1 ∷ []) 0)
     ∷ []
 
@@ -217,23 +222,22 @@ around = 0 ∷ 3 ∷ []
 abbrev straight : List ℕ
 straight = 5 ∷ []
 
--- the last place is a place to start from too
 abbrev pub ring-lines : List (Line ℕ)
 ring-lines =
     line nothing-yet (safest 0 3 500 OnePlusOne) (pair 500 around straight 0)
     ∷ line nothing-yet (safest 0 3 501 OneToOne) (pair 501 around around 9)
-    ∷ line nothing-yet (safest 3 1 900 OneToOne) (pair 900 (6 ∷ 0 ∷ []) (6 ∷ 0 ∷ []) 65)
+    ∷ line nothing-yet (safest 3 1 900 OneToOne) (pair 900 (6 ∷ 0 ∷ []) (6 ∷ 0 ∷ []) 65)  -- from the last place
     ∷ []
 
--- the costs would be right, but one of the two visits a place twice: one on the way, its start, its end
+-- the costs are the least, but one of the two visits a place twice
 abbrev pub ring-wrong : List (Line ℕ)
 ring-wrong =
-    line nothing-yet (safest 0 3 501 OneToOne) (pair 501 (0 ∷ 1 ∷ 2 ∷ 3 ∷ []) around 9)
-    ∷ line (notices-only (notice 1 3 ∷ [])) (safest 0 3 500 OneToOne) (pair 500 straight (0 ∷ 4 ∷ 5 ∷ []) 32)
-    ∷ line (notices-only (notice 1 4 ∷ [])) (safest 1 3 500 OneToOne) (pair 500 (3 ∷ 6 ∷ 5 ∷ []) (3 ∷ []) 8)
+    line nothing-yet (safest 0 3 501 OneToOne) (pair 501 (0 ∷ 1 ∷ 2 ∷ 3 ∷ []) around 9)  -- place 1 twice
+    ∷ line (notices-only (notice 1 3 ∷ [])) (safest 0 3 500 OneToOne) (pair 500 straight (0 ∷ 4 ∷ 5 ∷ []) 32)  -- the start twice
+    ∷ line (notices-only (notice 1 4 ∷ [])) (safest 1 3 500 OneToOne) (pair 500 (3 ∷ 6 ∷ 5 ∷ []) (3 ∷ []) 8)  -- the end twice
     ∷ []
 
--- each of these lines is right, and every right answer to its call agrees with it; the last are wrong
+-- each of these lines is right, and every right answer to its call agrees with it; the last two lists are wrong
 abbrev Hold : {V : Type 0} → Measure V → Network → List (Line V) → Type 0
 Hold s n xs = Lines s n xs × Only s n xs
 
@@ -246,6 +250,7 @@ pub record Further-lines : Type 0 where
   pub at-wide : Hold total wide wide-lines
   pub at-ring : Hold total ring ring-lines
   pub wrong-at-ring : Wrong total ring ring-wrong
+  pub wrong-by-worst : Wrong worst worked worst-wrong
 
 -- Routes and sets.
 
@@ -273,26 +278,26 @@ ring-no-routes = way 0 3 (0 ∷ 1 ∷ 2 ∷ 3 ∷ []) ∷ way 0 3 (0 ∷ 4 ∷ 5
 abbrev proposed : Ledger → Mode → ℕ → List (List ℕ) → Proposal
 proposed l m rate rs = record { ledger = l; from = 0; to = 3; mode = m; rate = rate; routes = rs }
 
--- three routes are a set, and so is one route three times; in 1+1 mode three routes on a circuit need three times the rate
+-- sets that can carry the rate
 abbrev pub worked-choices : List Proposal
 worked-choices =
-    proposed nothing-yet OneToOne 20000 (upper ∷ lower ∷ across ∷ [])
-    ∷ proposed nothing-yet OneToOne 30000 (lower ∷ lower ∷ lower ∷ [])
-    ∷ proposed nothing-yet OnePlusOne 10000 (lower ∷ lower ∷ lower ∷ [])
+    proposed nothing-yet OneToOne 20000 (upper ∷ lower ∷ across ∷ [])  -- three routes
+    ∷ proposed nothing-yet OneToOne 30000 (lower ∷ lower ∷ lower ∷ [])  -- one route three times
+    ∷ proposed nothing-yet OnePlusOne 10000 (lower ∷ lower ∷ lower ∷ [])  -- three times the rate on circuit 1
     ∷ proposed closed-2 OneToOne 25000 (lower ∷ across ∷ [])
     ∷ []
 
--- no route and one route are no set; each element has to be a route; one kbit/s too much; a closed circuit, or a full one, in one of the routes
+-- and these are no sets, or cannot carry the rate
 abbrev pub worked-no-choices : List Proposal
 worked-no-choices =
-    proposed nothing-yet OneToOne 1 []
-    ∷ proposed nothing-yet OneToOne 1 (lower ∷ [])
-    ∷ proposed nothing-yet OneToOne 1 (lower ∷ (0 ∷ []) ∷ [])
-    ∷ proposed nothing-yet OneToOne 1 ((0 ∷ []) ∷ lower ∷ [])
-    ∷ proposed nothing-yet OneToOne 30001 (lower ∷ lower ∷ lower ∷ [])
-    ∷ proposed nothing-yet OnePlusOne 10001 (lower ∷ lower ∷ lower ∷ [])
-    ∷ proposed closed-2 OneToOne 1 (lower ∷ upper ∷ [])
-    ∷ proposed feed-7 OneToOne 1 (lower ∷ upper ∷ [])
+    proposed nothing-yet OneToOne 1 []  -- no route
+    ∷ proposed nothing-yet OneToOne 1 (lower ∷ [])  -- one route
+    ∷ proposed nothing-yet OneToOne 1 (lower ∷ (0 ∷ []) ∷ [])  -- the second is no route
+    ∷ proposed nothing-yet OneToOne 1 ((0 ∷ []) ∷ lower ∷ [])  -- the first is none
+    ∷ proposed nothing-yet OneToOne 30001 (lower ∷ lower ∷ lower ∷ [])  -- one kbit/s too much
+    ∷ proposed nothing-yet OnePlusOne 10001 (lower ∷ lower ∷ lower ∷ [])  -- three kbit/s too much, though two would fit
+    ∷ proposed closed-2 OneToOne 1 (lower ∷ upper ∷ [])  -- circuit 2 is closed
+    ∷ proposed feed-7 OneToOne 1 (lower ∷ upper ∷ [])  -- circuit 2 is full
     ∷ []
 
 abbrev share : {V : Type 0} → List (List ℕ) → V → Share V
