@@ -21,6 +21,7 @@ struct Order {
 struct Routes {
     size_t first_length = 0;
     size_t second_length = 0;
+    uint32_t cost = 0; // what the entry told
     uint16_t first[128];
     uint16_t second[128];
 };
