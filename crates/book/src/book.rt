@@ -17,6 +17,7 @@ use crate::answer::Ask;
 use crate::answer::Pair;
 use network::Refusal;
 use network::Register;
+use plan::MAX_RATE;
 use plan::Plan;
 use plan::safest_at;
 use plan::safest_within;
@@ -26,6 +27,7 @@ use scale::Scale;
 use std::alloc::AllocError;
 use std::alloc::Global;
 use tables::Feed;
+use tables::MAX_ROUTE;
 use tables::MAX_STANDING;
 use tables::Notice;
 use tables::Route;
@@ -43,14 +45,14 @@ pub struct Book<R: Register + Drop, S: Scale + Drop> {
 fn bad_rate(rate: u32) -> bool
     ensures { λ r. ⌜ Decides r (BadRate rate) ⌝ }
 {
-    rate == 0 || rate > 1_000_000
+    rate == 0 || rate > MAX_RATE
 }
 
 // Whether one of the lists is too short for some route.
 fn short_lists(first: &[u16], second: &[u16]) -> bool
     ensures { λ r. ⌜ Decides r ((length (now (first .entry)) < 127) ⊎ (length (now (second .entry)) < 127)) ⌝ }
 {
-    first.len() < 127 || second.len() < 127
+    first.len() < MAX_ROUTE || second.len() < MAX_ROUTE
 }
 
 // Writes the route to the start of the list.

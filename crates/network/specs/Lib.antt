@@ -6,6 +6,7 @@ pub mod Layout
 pub mod MainRoute
 pub mod Network
 pub mod Reading
+pub mod Round
 pub mod Routes
 pub mod Table
 pub mod Refusals

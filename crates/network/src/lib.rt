@@ -31,6 +31,7 @@ pub use register::MOST_COST;
 pub use register::MOST_PLACES;
 pub use register::Register;
 pub use route::main_route;
+pub use route::round_is_no_route;
 pub use table::TableRegister;
 pub use table::TableRegisterRegister;
 pub use table::table_stands;

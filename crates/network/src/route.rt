@@ -1,9 +1,10 @@
-// The main route of an answer, and the other one: which of two is which.
+// The main route of an answer, and what is no route.
 ghost use mathlib.Core.Path.{_≡_};
 ghost use Prim.Native.Nat.{_≤_};
 ghost use lib.ListN.{length};
 ghost use Rattle.std.specs.declared.result.Result.the-variants.{Ok, Err};
 ghost use Rattle.network.specs.MainRoute.{shorter, Beyond};
+ghost use Rattle.network.specs.Round.{Round-is-no-route};
 use super::refusal::Refusal;
 
 // The route of fewer circuits, the first where both hold as many, as a part of the caller's own list.
@@ -24,4 +25,11 @@ pub fn main_route<'a>(
     } else {
         Ok(&second[0..second_length])
     }
+}
+
+// A way that visits a place twice is no route.
+pub fn round_is_no_route() -> u8
+    ensures { λ _. ⌜ Round-is-no-route ⌝ }
+{
+    1
 }

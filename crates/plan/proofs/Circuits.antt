@@ -20,11 +20,7 @@ use Rattle.tables.specs.declared.rows.Tables.{Tables}
 use Rattle.tables.specs.Standing.{Keeps, ledger-of, left-at}
 use Rattle.plan.specs.Arcs.{ArcFor}
 
--- what the tables have left is what the ledger leaves
-pub left-kept : (n : Network) (t : Tables) → Keeps n t → (c : ℕ) → c < length (n .circuits) → left-at t c ≡ left n (ledger-of t) c
-left-kept n t keeps c h = omega (arith, keeps .balanced c h)
-
--- and what they tell, at a circuit that they have
+-- what the tables tell of what is left, at a circuit that they have
 pub left-told : (t : Tables) (c : ℕ) (r : Option ℕ) → c < vec-len (t .circuits) → elim r as (λ _. Type 0) [ None ↦ vec-len (t .circuits) ≤ c | Some x ↦ (c < vec-len (t .circuits)) × (x ≡ left-at t c) ] → valueOr r 0 ≡ left-at t c
 left-told t c None h p = absurd (omega (arith, h, p))
 left-told t c (Some x) h p = p .1

@@ -11,12 +11,10 @@ use crate::arcs::circuit_at;
 use network::Register;
 use promise::Mode;
 use scale::Scale;
+use tables::MAX_ROUTE;
 use tables::Route;
 use tables::Tables;
 use tables::marks;
-
-// The search writes no longer route than this.
-const MAX_ROUTE: usize = 127;
 
 // Two routes, and the cost of what they share.
 #[derive(Clone, Copy)]

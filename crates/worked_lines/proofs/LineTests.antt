@@ -1,18 +1,14 @@
 -- Tests of each kind of line, and what they tell. Assumes nothing.
-use mathlib.Core.Path.{_≡_, refl, sym, ap, _∙_}
+use mathlib.Core.Path.{_≡_, refl}
 use mathlib.Core.List.{List, [], _∷_}
 use mathlib.Core.Bool.{Bool, true, false, not, _&&_}
-use Prim.Native.Nat.{ℕ}
-use lib.Dec.{eqb, leb}
-use Rattle.std.proofs.shelf.Tests.{and-parts, both-ways, not-true, eqb-true}
+use Rattle.std.proofs.shelf.Tests.{and-parts, both-ways, not-true}
 use Rattle.network.specs.Network.{Network}
 use Rattle.network.specs.Routes.{Leads, Route}
 use Rattle.network.proofs.Lists.{every}
 use Rattle.scale.specs.Measure.{Measure, shared-cost}
-use Rattle.promise.specs.declared.Mode.{Mode}
-use Rattle.promise.specs.declared.Mode.the-variants.{OnePlusOne, OneToOne}
-use Rattle.promise.specs.Ledger.{Feed, Notice, Ledger}
-use Rattle.promise.specs.Promise.{Plan, safest, widest, book, Call, plan, act, tell, Answer, refused, pair, done, told, Right, after, Entry, Kept}
+use Rattle.promise.specs.Ledger.{Ledger}
+use Rattle.promise.specs.Promise.{safest, widest, book, Call, plan, act, tell, Answer, refused, pair, done, told, Right, after, Entry, Kept}
 use Rattle.worked_lines.specs.Lines.{All, Line, Is-right, Is-only, Lines, Only, Wrong, along, ending, Leads-to, Step, Steps, Way, Routes, No-routes, No-way, Proposal, Can, Choices, No-choices, Share, Shares, Weight, Join, Order, Figures, Keeps}
 use Rattle.worked_lines.proofs.AnswerTest.{Told-by, leads?, route?, choice?, right?}
 use Rattle.worked_lines.proofs.AnswerTestSound.{Told-right, right-sound}

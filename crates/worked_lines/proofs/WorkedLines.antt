@@ -1,18 +1,18 @@
 -- The worked lines and the further ones, all by one computation. Assumes nothing.
 use mathlib.Core.Path.{_≡_, refl}
 use mathlib.Core.List.{List, [], _∷_}
-use mathlib.Core.Bool.{Bool, true, false, _&&_}
+use mathlib.Core.Bool.{Bool, true, _&&_}
 use Prim.Native.Nat.{ℕ, zero, suc, _≤_}
 use native.Mathlib.Omega.{arith}
 use lib.Dec.{eqb, leb}
-use Rattle.std.proofs.shelf.Tests.{and-parts, and-from, both-ways, eqb-true, leb-true, le-leb}
+use Rattle.std.proofs.shelf.Tests.{and-parts, and-from, eqb-true, leb-true, le-leb}
 use Rattle.network.specs.Network.{Network}
 use Rattle.scale.specs.Measure.{Measure}
 use Rattle.scale.specs.ThreeScales.{total, worst, tally, most}
 use Rattle.promise.specs.Ledger.{nothing-yet}
 use Rattle.worked_lines.specs.Lines.{Line, Lines, Only, Leads-to}
 use Rattle.worked_lines.specs.Worked.{worked, feed-7, total-lines, worst-lines, tally-lines, Worked-lines, Only-these}
-use Rattle.worked_lines.specs.Further.{single, wide, ring, feed-9, further-lines, worst-further, worst-wrong, tally-further, single-1-lines, single-7-lines, wide-lines, ring-lines, ring-wrong, Further-lines, worked-routes, worked-no-routes, worked-no-way, ring-routes, ring-no-routes, worked-choices, worked-no-choices, total-shares, worst-shares, tally-shares, Route-lines, total-figures, worst-figures, tally-figures, Scale-lines, first-run, second-run, third-run, fourth-run, wrong-first, wrong-later, wrong-after, steps, Run-lines}
+use Rattle.worked_lines.specs.Further.{single, wide, ring, feed-9, further-lines, worst-further, worst-wrong, tally-further, single-1-lines, single-7-lines, wide-lines, ring-lines, ring-wrong, Further-lines, worked-routes, worked-no-routes, worked-no-way, ring-routes, ring-no-routes, worked-choices, worked-no-choices, total-shares, worst-shares, tally-shares, Route-lines, total-figures, worst-figures, tally-figures, Scale-lines, first-run, second-run, third-run, fourth-run, steps, Run-lines}
 use Rattle.scale.proofs.ThreeScalesLawful.{pairs, total-lawful, worst-lawful, tally-lawful}
 use Rattle.worked_lines.proofs.AnswerTest.{Told-by}
 use Rattle.worked_lines.proofs.AnswerTestSound.{Told-right}

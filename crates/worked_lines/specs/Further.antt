@@ -1,5 +1,4 @@
 -- Further lines, so that no rule of the definitions can be turned without a line that sees it. Assumes nothing.
-use mathlib.Core.Path.{_≡_}
 use mathlib.Core.List.{List, [], _∷_, _++_}
 use mathlib.Core.Bool.{true, false}
 use Prim.Native.Nat.{ℕ, zero, suc}

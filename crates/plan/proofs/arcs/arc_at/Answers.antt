@@ -1,7 +1,8 @@
 use mathlib.Core.Path.{sym, ap, subst, _∙_}
 use native.Mathlib.Omega.{arith}
 use Rattle.network.specs.Network.{Sound}
-use Rattle.plan.proofs.Circuits.{left-kept, left-told}
+use Rattle.tables.proofs.Booking.{left-kept}
+use Rattle.plan.proofs.Circuits.{left-told}
 use Rattle.plan.proofs.arcs.arc_at.Needs as need
 
 pub returns : need.returns
