@@ -24,8 +24,8 @@ pub fn number_of(refusal: Refusal) -> u32
     u32::from(refusal.number())
 }
 
-// How many circuits the lists get for a route. They get none where the output is short: the book then refuses them in
-// the order of its checks, and searches in vain for nobody.
+// How many circuits the lists get for a route. They get none where the output is short: the book then refuses them at
+// that point in its own order of checks, and without a search.
 fn room_for(size: usize) -> usize
     ensures most { λ r. ⌜ r ≤ 127 ⌝ }
     ensures short { λ r. ⌜ (size < 516 → r < 127) ⌝ }

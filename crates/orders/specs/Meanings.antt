@@ -6,6 +6,7 @@ use Prim.Native.Nat.{ℕ}
 use lib.Chars.{codes}
 use Rattle.promise.specs.declared.Mode.{Mode}
 use Rattle.book.specs.declared.answer.Ask.{Ask}
+use Rattle.book.specs.declared.runs.Order.{Order}
 use Rattle.book.specs.declared.runs.Order.the-variants as order
 use Rattle.orders.specs.declared.statement.Statement.{Statement}
 use Rattle.orders.specs.declared.statement.Statement.the-variants as statement
@@ -34,6 +35,17 @@ One args n = (a : List ℕ) × (args ≡ a ∷ []) × Numeral 32 a n
 
 abbrev pub Two : List (List ℕ) → ℕ × ℕ → Type 0
 Two args v = (a : List ℕ) × (b : List ℕ) × (args ≡ a ∷ b ∷ []) × Numeral 32 a (v .0) × Numeral 32 b (v .1)
+
+-- the words say an order over one number, or over two
+abbrev pub Said-one : {V : Type 0} → (ℕ → Order V) → List (List ℕ) → Statement V → Type 0
+Said-one make args s = (n : ℕ) × One args n × (s ≡ statement.Order (make n))
+
+abbrev pub Said-two : {V : Type 0} → (ℕ → ℕ → Order V) → List (List ℕ) → Statement V → Type 0
+Said-two make args s = (v : ℕ × ℕ) × Two args v × (s ≡ statement.Order (make (v .0) (v .1)))
+
+-- the words FROM and TO name these places
+abbrev pub Leads : List (List ℕ) → List ℕ → List ℕ → ℕ × ℕ → Type 0
+Leads names from to v = Place names from (v .0) × Place names to (v .1)
 
 -- the words FROM, TO, RATE and MODE ask for this
 abbrev pub Asks : List (List ℕ) → List ℕ → List ℕ → List ℕ → List ℕ → Ask → Type 0
@@ -75,12 +87,12 @@ module _ {V : Type 0} (spells : List ℕ → V → Type 0) (names : List (List �
   Said verb.Safest args s = Said-safest args s
   Said verb.Widest args s = Said-widest args s
   Said verb.Book args s = Said-book args s
-  Said verb.Release args s = (feed : ℕ) × One args feed × (s ≡ statement.Order (order.Release feed))
-  Said verb.Close args s = (v : ℕ × ℕ) × Two args v × (s ≡ statement.Order (order.Close (v .0) (v .1)))
-  Said verb.Reopen args s = (notice : ℕ) × One args notice × (s ≡ statement.Order (order.Reopen notice))
-  Said verb.Left args s = (circuit : ℕ) × One args circuit × (s ≡ statement.Order (order.Left circuit))
-  Said verb.Open args s = (circuit : ℕ) × One args circuit × (s ≡ statement.Order (order.Open circuit))
-  Said verb.Uses args s = (v : ℕ × ℕ) × Two args v × (s ≡ statement.Order (order.Uses (v .0) (v .1)))
+  Said verb.Release args s = Said-one order.Release args s
+  Said verb.Close args s = Said-two order.Close args s
+  Said verb.Reopen args s = Said-one order.Reopen args s
+  Said verb.Left args s = Said-one order.Left args s
+  Said verb.Open args s = Said-one order.Open args s
+  Said verb.Uses args s = Said-two order.Uses args s
   Said verb.Routes args s = (args ≡ []) × (s ≡ statement.Routes)
   Said verb.Map args s = (args ≡ []) × (s ≡ statement.Map)
 

@@ -44,30 +44,26 @@ pub enum Fault {
     Limit(Form),
 }
 
+impl Fault {
+    // What is wrong, and how, for people.
+    fn text(self) -> (&'static str, &'static str) {
+        match self {
+            Fault::Verb => (
+                "unknown verb, expected ",
+                "safest, widest, book, release, close, reopen, left, open, uses, routes or map",
+            ),
+            Fault::Words(verb) => (verb.usage(), ""),
+            Fault::Number(part) => (part.text(), " is no number of 32 bits"),
+            Fault::Name(part) => (part.text(), " is no number, and no place has that name"),
+            Fault::Mode => ("MODE", " is neither 1+1 nor 1:1"),
+            Fault::Limit(form) => ("LIMIT is no ", form.text()),
+        }
+    }
+}
+
 pub impl fmt::Display for Fault as FaultDisplay {
     fn fmt<W: fmt::Write>(&self, f: &mut fmt::Formatter<W>) -> fmt::Result {
-        match *self {
-            Fault::Verb => write!(
-                f,
-                "unknown verb, expected safest, widest, book, release, close, reopen, left, open, uses, routes or map"
-            ),
-            Fault::Words(verb) => {
-                let usage = verb.usage();
-                write!(f, "{usage}")
-            }
-            Fault::Number(part) => {
-                let part = part.text();
-                write!(f, "{part} is no number of 32 bits")
-            }
-            Fault::Name(part) => {
-                let part = part.text();
-                write!(f, "{part} is no number, and no place has that name")
-            }
-            Fault::Mode => write!(f, "MODE is neither 1+1 nor 1:1"),
-            Fault::Limit(form) => {
-                let form = form.text();
-                write!(f, "LIMIT is no {form}")
-            }
-        }
+        let (what, how) = self.text();
+        write!(f, "{what}{how}")
     }
 }

@@ -3,7 +3,7 @@ ghost use mathlib.Core.Path.{_≡_};
 ghost use mathlib.Core.List.{[]};
 ghost use Rattle.orders.specs.Figures.{Reads};
 ghost use Rattle.orders.specs.Lines.{texts};
-ghost use Rattle.orders.specs.Meanings.{One, Two, Asks, Said-safest, Said-widest, Said-book, Said, Means};
+ghost use Rattle.orders.specs.Meanings.{One, Two, Leads, Asks, Said-one, Said-two, Said-safest, Said-widest, Said-book, Said, Means};
 use crate::faults::Fault;
 use crate::faults::Part;
 use crate::figures::mode;
@@ -51,12 +51,20 @@ fn two(verb: Verb, parts: (Part, Part), args: &[&[u8]]) -> Result<(u32, u32), Fa
     Ok((a, b))
 }
 
+// FROM TO.
+fn places(from: &[u8], to: &[u8], names: &[&[u8]]) -> Result<(u32, u32), Fault>
+    ensures { λ r. ⌜ Reads r (Leads (texts (now (names .entry))) (now (from .entry)) (now (to .entry))) ⌝ }
+{
+    let first = place(Part::From, from, names)?;
+    let second = place(Part::To, to, names)?;
+    Ok((first, second))
+}
+
 // FROM TO RATE MODE.
 fn asked(from: &[u8], to: &[u8], rate: &[u8], how: &[u8], names: &[&[u8]]) -> Result<Ask, Fault>
     ensures { λ r. ⌜ Reads r (Asks (texts (now (names .entry))) (now (from .entry)) (now (to .entry)) (now (rate .entry)) (now (how .entry))) ⌝ }
 {
-    let from = place(Part::From, from, names)?;
-    let to = place(Part::To, to, names)?;
+    let (from, to) = places(from, to, names)?;
     let rate = numeral(Part::Rate, rate)?;
     let mode = mode(how)?;
     Ok(Ask {
@@ -95,8 +103,7 @@ fn widest<S: Limit>(args: &[&[u8]], names: &[&[u8]]) -> Result<Statement<S::Valu
     if args.len() != 4 {
         return Err(Fault::Words(Verb::Widest));
     }
-    let from = place(Part::From, args[0], names)?;
-    let to = place(Part::To, args[1], names)?;
+    let (from, to) = places(args[0], args[1], names)?;
     let mode = mode(args[2])?;
     let limit = limited::<S>(args[3])?;
     Ok(Statement::Order(Order::Widest {
@@ -120,6 +127,54 @@ fn book<S: Limit>(args: &[&[u8]], names: &[&[u8]]) -> Result<Statement<S::Value>
     Ok(Statement::Order(Order::Book { feed, ask, limit }))
 }
 
+// FEED.
+fn release<V>(args: &[&[u8]]) -> Result<Statement<V>, Fault>
+    ensures { λ r. ⌜ Reads r (Said-one Order.Release (texts (now (args .entry)))) ⌝ }
+{
+    let feed = one(Verb::Release, Part::Feed, args)?;
+    Ok(Statement::Order(Order::Release { feed }))
+}
+
+// NOTICE CIRCUIT.
+fn close<V>(args: &[&[u8]]) -> Result<Statement<V>, Fault>
+    ensures { λ r. ⌜ Reads r (Said-two Order.Close (texts (now (args .entry)))) ⌝ }
+{
+    let (notice, circuit) = two(Verb::Close, (Part::Notice, Part::Circuit), args)?;
+    Ok(Statement::Order(Order::Close { notice, circuit }))
+}
+
+// NOTICE.
+fn reopen<V>(args: &[&[u8]]) -> Result<Statement<V>, Fault>
+    ensures { λ r. ⌜ Reads r (Said-one Order.Reopen (texts (now (args .entry)))) ⌝ }
+{
+    let notice = one(Verb::Reopen, Part::Notice, args)?;
+    Ok(Statement::Order(Order::Reopen { notice }))
+}
+
+// CIRCUIT.
+fn left<V>(args: &[&[u8]]) -> Result<Statement<V>, Fault>
+    ensures { λ r. ⌜ Reads r (Said-one Order.Left (texts (now (args .entry)))) ⌝ }
+{
+    let circuit = one(Verb::Left, Part::Circuit, args)?;
+    Ok(Statement::Order(Order::Left { circuit }))
+}
+
+// CIRCUIT.
+fn open<V>(args: &[&[u8]]) -> Result<Statement<V>, Fault>
+    ensures { λ r. ⌜ Reads r (Said-one Order.Open (texts (now (args .entry)))) ⌝ }
+{
+    let circuit = one(Verb::Open, Part::Circuit, args)?;
+    Ok(Statement::Order(Order::Open { circuit }))
+}
+
+// FEED CIRCUIT.
+fn uses<V>(args: &[&[u8]]) -> Result<Statement<V>, Fault>
+    ensures { λ r. ⌜ Reads r (Said-two Order.Uses (texts (now (args .entry)))) ⌝ }
+{
+    let (feed, circuit) = two(Verb::Uses, (Part::Feed, Part::Circuit), args)?;
+    Ok(Statement::Order(Order::Uses { feed, circuit }))
+}
+
 // What the words after the verb say.
 fn told<S: Limit>(verb: Verb, args: &[&[u8]], names: &[&[u8]]) -> Result<Statement<S::Value>, Fault>
     ensures { λ r. ⌜ Reads r (Said (S·Limit .spells) (texts (now (names .entry))) verb (texts (now (args .entry)))) ⌝ }
@@ -128,30 +183,12 @@ fn told<S: Limit>(verb: Verb, args: &[&[u8]], names: &[&[u8]]) -> Result<Stateme
         Verb::Safest => safest::<S>(args, names),
         Verb::Widest => widest::<S>(args, names),
         Verb::Book => book::<S>(args, names),
-        Verb::Release => {
-            let feed = one(verb, Part::Feed, args)?;
-            Ok(Statement::Order(Order::Release { feed }))
-        }
-        Verb::Close => {
-            let (notice, circuit) = two(verb, (Part::Notice, Part::Circuit), args)?;
-            Ok(Statement::Order(Order::Close { notice, circuit }))
-        }
-        Verb::Reopen => {
-            let notice = one(verb, Part::Notice, args)?;
-            Ok(Statement::Order(Order::Reopen { notice }))
-        }
-        Verb::Left => {
-            let circuit = one(verb, Part::Circuit, args)?;
-            Ok(Statement::Order(Order::Left { circuit }))
-        }
-        Verb::Open => {
-            let circuit = one(verb, Part::Circuit, args)?;
-            Ok(Statement::Order(Order::Open { circuit }))
-        }
-        Verb::Uses => {
-            let (feed, circuit) = two(verb, (Part::Feed, Part::Circuit), args)?;
-            Ok(Statement::Order(Order::Uses { feed, circuit }))
-        }
+        Verb::Release => release::<S::Value>(args),
+        Verb::Close => close::<S::Value>(args),
+        Verb::Reopen => reopen::<S::Value>(args),
+        Verb::Left => left::<S::Value>(args),
+        Verb::Open => open::<S::Value>(args),
+        Verb::Uses => uses::<S::Value>(args),
         Verb::Routes => bare::<S>(verb, args, Statement::Routes),
         Verb::Map => bare::<S>(verb, args, Statement::Map),
     }

@@ -4,7 +4,7 @@ ghost use Rattle.orders.specs.Figures.{Found};
 ghost use Rattle.orders.specs.Meanings.{verb-text};
 use crate::texts::same;
 
-#[derive(Clone, Copy, PartialEq, Eq, Debug)]
+#[derive(Clone, Copy)]
 pub enum Verb {
     Safest,
     Widest,

@@ -2,7 +2,6 @@ use mathlib.Core.Path.{sym, subst}
 use Rattle.orders.specs.Figures.{Reads}
 use Rattle.orders.specs.Lines.{texts}
 use Rattle.orders.specs.Meanings.{Said}
-use Rattle.orders.proofs.Saying.{reads-refused}
 use Rattle.orders.proofs.forms.told.Needs as need
 
 pub returns-in-Safest : need.returns-in-Safest
@@ -17,6 +16,30 @@ pub returns-in-Book : need.returns-in-Book
 returns-in-Book g c =
     subst (λ v. Reads (c .book .result) (Said (g .S·Limit .spells) (texts (c .args .names .now)) v (texts (c .args .args .now)))) (sym (c .in-Book .is)) (c .book .ensures)
 
+pub returns-in-Release : need.returns-in-Release
+returns-in-Release g c =
+    subst (λ v. Reads (c .release .result) (Said (g .S·Limit .spells) (texts (c .args .names .now)) v (texts (c .args .args .now)))) (sym (c .in-Release .is)) (c .release .ensures)
+
+pub returns-in-Close : need.returns-in-Close
+returns-in-Close g c =
+    subst (λ v. Reads (c .close .result) (Said (g .S·Limit .spells) (texts (c .args .names .now)) v (texts (c .args .args .now)))) (sym (c .in-Close .is)) (c .close .ensures)
+
+pub returns-in-Reopen : need.returns-in-Reopen
+returns-in-Reopen g c =
+    subst (λ v. Reads (c .reopen .result) (Said (g .S·Limit .spells) (texts (c .args .names .now)) v (texts (c .args .args .now)))) (sym (c .in-Reopen .is)) (c .reopen .ensures)
+
+pub returns-in-Left : need.returns-in-Left
+returns-in-Left g c =
+    subst (λ v. Reads (c .left .result) (Said (g .S·Limit .spells) (texts (c .args .names .now)) v (texts (c .args .args .now)))) (sym (c .in-Left .is)) (c .left .ensures)
+
+pub returns-in-Open : need.returns-in-Open
+returns-in-Open g c =
+    subst (λ v. Reads (c .open .result) (Said (g .S·Limit .spells) (texts (c .args .names .now)) v (texts (c .args .args .now)))) (sym (c .in-Open .is)) (c .open .ensures)
+
+pub returns-in-Uses : need.returns-in-Uses
+returns-in-Uses g c =
+    subst (λ v. Reads (c .uses .result) (Said (g .S·Limit .spells) (texts (c .args .names .now)) v (texts (c .args .args .now)))) (sym (c .in-Uses .is)) (c .uses .ensures)
+
 pub returns-in-Routes : need.returns-in-Routes
 returns-in-Routes g c =
     subst (λ v. Reads (c .bare .result) (Said (g .S·Limit .spells) (texts (c .args .names .now)) v (texts (c .args .args .now)))) (sym (c .in-Routes .is)) (c .bare .ensures)
@@ -24,33 +47,3 @@ returns-in-Routes g c =
 pub returns-in-Map : need.returns-in-Map
 returns-in-Map g c =
     subst (λ v. Reads (c .bare-in-Map .result) (Said (g .S·Limit .spells) (texts (c .args .names .now)) v (texts (c .args .args .now)))) (sym (c .in-Map .is)) (c .bare-in-Map .ensures)
-
-pub returns-in-Break-feed : need.returns-in-Break-feed
-returns-in-Break-feed g c =
-    reads-refused (c .from-residual .result) (Said (g .S·Limit .spells) (texts (c .args .names .now)) (c .args .verb) (texts (c .args .args .now))) (c .from-residual .ensures .0)
-    (λ s h. let k = subst (λ v. Said (g .S·Limit .spells) (texts (c .args .names .now)) v (texts (c .args .args .now)) s) (c .in-Release .is) h in c .in-Break-feed .ensures tt (k .0) (k .1))
-
-pub returns-in-Break-notice : need.returns-in-Break-notice
-returns-in-Break-notice g c =
-    reads-refused (c .from-residual-in-Break-notice .result) (Said (g .S·Limit .spells) (texts (c .args .names .now)) (c .args .verb) (texts (c .args .args .now))) (c .from-residual-in-Break-notice .ensures .0)
-    (λ s h. let k = subst (λ v. Said (g .S·Limit .spells) (texts (c .args .names .now)) v (texts (c .args .args .now)) s) (c .in-Close .is) h in c .in-Break-notice .ensures tt (k .0) (k .1))
-
-pub returns-in-Break-notice-2 : need.returns-in-Break-notice-2
-returns-in-Break-notice-2 g c =
-    reads-refused (c .from-residual-in-Break-notice-2 .result) (Said (g .S·Limit .spells) (texts (c .args .names .now)) (c .args .verb) (texts (c .args .args .now))) (c .from-residual-in-Break-notice-2 .ensures .0)
-    (λ s h. let k = subst (λ v. Said (g .S·Limit .spells) (texts (c .args .names .now)) v (texts (c .args .args .now)) s) (c .in-Reopen .is) h in c .in-Break-notice-2 .ensures tt (k .0) (k .1))
-
-pub returns-in-Break-circuit : need.returns-in-Break-circuit
-returns-in-Break-circuit g c =
-    reads-refused (c .from-residual-in-Break-circuit .result) (Said (g .S·Limit .spells) (texts (c .args .names .now)) (c .args .verb) (texts (c .args .args .now))) (c .from-residual-in-Break-circuit .ensures .0)
-    (λ s h. let k = subst (λ v. Said (g .S·Limit .spells) (texts (c .args .names .now)) v (texts (c .args .args .now)) s) (c .in-Left .is) h in c .in-Break-circuit .ensures tt (k .0) (k .1))
-
-pub returns-in-Break-circuit-2 : need.returns-in-Break-circuit-2
-returns-in-Break-circuit-2 g c =
-    reads-refused (c .from-residual-in-Break-circuit-2 .result) (Said (g .S·Limit .spells) (texts (c .args .names .now)) (c .args .verb) (texts (c .args .args .now))) (c .from-residual-in-Break-circuit-2 .ensures .0)
-    (λ s h. let k = subst (λ v. Said (g .S·Limit .spells) (texts (c .args .names .now)) v (texts (c .args .args .now)) s) (c .in-Open .is) h in c .in-Break-circuit-2 .ensures tt (k .0) (k .1))
-
-pub returns-in-Break-feed-2 : need.returns-in-Break-feed-2
-returns-in-Break-feed-2 g c =
-    reads-refused (c .from-residual-in-Break-feed-2 .result) (Said (g .S·Limit .spells) (texts (c .args .names .now)) (c .args .verb) (texts (c .args .args .now))) (c .from-residual-in-Break-feed-2 .ensures .0)
-    (λ s h. let k = subst (λ v. Said (g .S·Limit .spells) (texts (c .args .names .now)) v (texts (c .args .args .now)) s) (c .in-Uses .is) h in c .in-Break-feed-2 .ensures tt (k .0) (k .1))

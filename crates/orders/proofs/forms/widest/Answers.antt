@@ -12,12 +12,9 @@ returns-then-args-ne4 g c = λ s h. omega (arith, count-is (c .args .args .now) 
 pub returns-in-Break-from : need.returns-in-Break-from
 returns-in-Break-from g c =
     reads-refused (c .from-residual .result) (Said-widest (g .S·Limit .spells) (texts (c .args .names .now)) (texts (c .args .args .now))) (c .from-residual .ensures .0)
-    (λ s h. c .in-Break-from .ensures tt (h .4) (widest-from (c .args .args .now) (g .S·Limit .spells) (texts (c .args .names .now)) s h _))
-
-pub returns-in-Break-to : need.returns-in-Break-to
-returns-in-Break-to g c =
-    reads-refused (c .from-residual-in-Break-to .result) (Said-widest (g .S·Limit .spells) (texts (c .args .names .now)) (texts (c .args .args .now))) (c .from-residual-in-Break-to .ensures .0)
-    (λ s h. c .in-Break-to .ensures tt (h .5) (widest-to (c .args .args .now) (g .S·Limit .spells) (texts (c .args .names .now)) s h _))
+    (λ s h.
+    c .in-Break-from .ensures tt (h .4, h .5)
+    (widest-from (c .args .args .now) (g .S·Limit .spells) (texts (c .args .names .now)) s h _, widest-to (c .args .args .now) (g .S·Limit .spells) (texts (c .args .names .now)) s h _))
 
 pub returns-in-Break-mode : need.returns-in-Break-mode
 returns-in-Break-mode g c =
@@ -31,4 +28,4 @@ returns-in-Break-limit g c =
 
 pub returns : need.returns
 returns g c =
-    (_, _, _, _, _, _, _, _, shape-4 (c .args .args .now) _ _ _ _ (omega arith), c .in-Continue-from .ensures tt, c .in-Continue-to .ensures tt, c .in-Continue-mode .ensures tt, c .in-Continue-limit .ensures tt, refl)
+    (_, _, _, _, _, _, _, _, shape-4 (c .args .args .now) _ _ _ _ (omega arith), c .in-Continue-from .ensures tt .0, c .in-Continue-from .ensures tt .1, c .in-Continue-mode .ensures tt, c .in-Continue-limit .ensures tt, refl)
