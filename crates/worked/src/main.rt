@@ -26,6 +26,17 @@ const fn circuit(from: u16, to: u16, bandwidth: u32, cost: u32) -> Circuit {
     }
 }
 
+// The circuits of the worked network, between four places.
+fn worked_circuits() -> [Circuit; 5] {
+    [
+        circuit(0, 1, 40_000, 3),
+        circuit(0, 2, 30_000, 5),
+        circuit(1, 3, 20_000, 2),
+        circuit(2, 3, 50_000, 4),
+        circuit(1, 2, 25_000, 1),
+    ]
+}
+
 // An answer that plans, by its rate, cost and routes.
 fn tell(
     rt: &LibcRuntime,
@@ -73,13 +84,7 @@ fn tell_left<R: Register + Drop>(rt: &LibcRuntime, book: &Book<R, Total>) -> io:
 
 // Feed 7 and what it leaves; then two notices on circuit 3, of which one ends.
 fn booking(rt: &LibcRuntime) -> Result<(), AnyError> {
-    let circuits = [
-        circuit(0, 1, 40_000, 3),
-        circuit(0, 2, 30_000, 5),
-        circuit(1, 3, 20_000, 2),
-        circuit(2, 3, 50_000, 4),
-        circuit(1, 2, 25_000, 1),
-    ];
+    let circuits = worked_circuits();
     let mut register = TableRegister::empty();
     if register.load(4, &circuits).is_err() {
         return Err("the worked network is refused".into());
