@@ -1,4 +1,6 @@
 // The calls on a book as values: an order, and what came of it.
+#![tactic(auto)]
+
 mod answer;
 mod order;
 

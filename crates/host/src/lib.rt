@@ -1,4 +1,6 @@
 // The entry for the automation host, a C program: include/route_book.h declares it, docs/HOST.md tells of it.
+#![tactic(auto)]
+
 mod answer;
 mod entry;
 mod output;

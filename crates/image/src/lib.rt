@@ -1,4 +1,6 @@
 // The register that reads its network in an image, and the records of the image in turn.
+#![tactic(auto)]
+
 mod figure;
 mod layout;
 mod record;

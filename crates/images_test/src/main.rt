@@ -1,4 +1,6 @@
 // Images of all kinds, and what a load says of each.
+#![tactic(auto)]
+
 use image::ImageRegister;
 use network::{Circuit, Register};
 use std::alloc::{AllocError, Global};

@@ -1,4 +1,6 @@
 // What a network is, the registers that hold one, and the numbers by which an order is refused.
+#![tactic(auto)]
+
 mod refusal;
 mod register;
 mod route;

@@ -1,4 +1,6 @@
 // The text of an order: what a line of bytes says, and the reading of it.
+#![tactic(auto)]
+
 mod forms;
 mod reading;
 mod statement;

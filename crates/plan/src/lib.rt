@@ -1,4 +1,6 @@
 // Two routes for a feed, by what the tables leave: the safest pair at a rate, and the widest within a limit.
+#![tactic(auto)]
+
 mod arcs;
 mod plan;
 mod widest;

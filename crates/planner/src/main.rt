@@ -1,4 +1,6 @@
 // The planner: orders in, answers out, on a register image.
+#![tactic(auto)]
+
 mod sheet;
 mod worked;
 

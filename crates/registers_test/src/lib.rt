@@ -1,4 +1,6 @@
 // A register that is not the network crate's own, beside a table, read by code that serves any register.
+#![tactic(auto)]
+
 ghost use Rattle.std.specs.Prelude.{◌≡◌, Ok, Err};
 ghost use Rattle.network.specs.Refusals.{number_of};
 ghost use Rattle.network.specs.Table.{table, Refused};

@@ -1,4 +1,6 @@
 // What the planner prints: answers as lines of text, the last pair by place names, and the register as a drawing.
+#![tactic(auto)]
+
 mod draw;
 mod show;
 

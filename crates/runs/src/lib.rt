@@ -1,4 +1,6 @@
 // A list of orders, played on a new book.
+#![tactic(auto)]
+
 ghost use Rattle.std.specs.Prelude.{◌≡◌, ◌≤◌, length, IfOk, Ok, Err, vec_len};
 ghost use Rattle.promise.specs.Promise.{Run};
 ghost use Rattle.book.specs.Answered.{Promised, planned as planned_answer, acted as acted_answer, told_number, told_whether};

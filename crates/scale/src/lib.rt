@@ -1,4 +1,6 @@
 // Scales: how the costs of shared circuits are weighed, joined and compared.
+#![tactic(auto)]
+
 ghost use Rattle.std.specs.Prelude.{◌≡◌, if◌then◌else◌};
 ghost use Rattle.scale.specs.Measure.{Measure, Lawful, AtMost};
 ghost use Rattle.scale.specs.Shared.{SharingLessCostsNoMore, OrderDoesNotMatter};

@@ -1,4 +1,6 @@
 // A fourth scale, made outside the crate of scales, and cases for the three inside it.
+#![tactic(auto)]
+
 ghost use Rattle.scale_test.specs.Even.{even as even_measure};
 ghost use Rattle.std.proofs.Common.{rules};
 

@@ -1,4 +1,6 @@
 // The search on small networks.
+#![tactic(auto)]
+
 ghost use Rattle.std.specs.Prelude.{◌≡◌, true};
 ghost use Rattle.search.specs.Graph.{Proper};
 

@@ -1,4 +1,6 @@
 // What a book keeps: the bandwidth left on each circuit, the standing feeds, and the standing notices.
+#![tactic(auto)]
+
 mod bandwidth;
 mod ledger;
 mod making;

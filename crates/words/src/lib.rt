@@ -1,4 +1,6 @@
 // The single words of an order: numbers, places, modes, limits and verbs, and what is wrong with one.
+#![tactic(auto)]
+
 mod faults;
 mod figures;
 mod limit;

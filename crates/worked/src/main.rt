@@ -1,5 +1,7 @@
 // The worked network's lines that are run: a booking and what it leaves, notices, networks of one circuit, and an image
 // with its damaged twin. The lines that are established over the definitions stand in the crate worked_lines.
+#![tactic(auto)]
+
 use anyhow::anyhow;
 use book::{Book, Pair};
 use calls::Ask;
