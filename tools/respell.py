@@ -14,6 +14,8 @@ import sys
 WORD = re.compile(r"[A-Za-z0-9_'?]+(?:-[A-Za-z0-9_'?]+)+")
 # names with capitals inside a word, turned by hand
 OTHERS = {"tally-atMost": "tally_at_most"}
+# a ghost member with a capital inside
+MEMBERS = {"numberOf": "number_of"}
 # lemmas whose names begin with a capital: they are no types
 LEMMAS = {"PL-CT": "pl_ct", "PL-EN": "pl_en", "CT-EN": "ct_en"}
 
@@ -113,6 +115,8 @@ def main():
     for f, comment in targets:
         before = open(f).read()
         after = turned(before, table, fields, library.get(f, set()), comment)
+        for old, new in MEMBERS.items():
+            after = re.sub(r"\b" + old + r"\b", new, after)
         if after == before:
             continue
         old = set(ident.findall(code(before, comment)))

@@ -28,8 +28,8 @@ pub fn lanes_of(mode: Mode, rate: u32, left: u32, closed: bool) -> u8
 
 // The figures of a circuit that the register has.
 pub fn circuit_at<R: Register>(register: &R, number: u16) -> Circuit
-    requires { number < length (network register.now).circuits }
-    ensures { result ≡ circuit_of (network register.now) number }
+    requires { number < length (R.network register.now).circuits }
+    ensures { result ≡ circuit_of (R.network register.now) number }
 {
     let Some(circuit) = register.circuit(number as u32) else {
         unreachable()
@@ -46,10 +46,10 @@ fn arc_at<R: Register>(
     rate: u32,
     mode: Mode,
 ) -> Arc
-    requires within { number < length (network register.now).circuits }
+    requires within { number < length (R.network register.now).circuits }
     requires free { closed ≡ false → Open (ledger_of tables.now) number }
     requires shut { closed ≡ true → Open (ledger_of tables.now) number → ⊥ }
-    ensures { ArcFor (network register.now) tables.now mode rate number result }
+    ensures { ArcFor (R.network register.now) tables.now mode rate number result }
 {
     let circuit = circuit_at(register, number);
     let left = tables.left(number as u32).unwrap_or(0);
@@ -62,8 +62,8 @@ fn arc_at<R: Register>(
 
 // An arc for each circuit, by its number; what stands past them means nothing.
 pub fn arcs<R: Register>(register: &R, tables: &Tables, rate: u32, mode: Mode) -> [Arc; MAX_ARCS]
-    ensures proper { Proper (take (length (network register.now).circuits) result) (network register.now).places }
-    ensures lanes { Keeps (network register.now) tables.now → Lanes (network register.now) (ledger_of tables.now) mode rate (take (length (network register.now).circuits) result) }
+    ensures proper { Proper (take (length (R.network register.now).circuits) result) (R.network register.now).places }
+    ensures lanes { Keeps (R.network register.now) tables.now → Lanes (R.network register.now) (ledger_of tables.now) mode rate (take (length (R.network register.now).circuits) result) }
 {
     let closed = tables.closed();
     let mut arcs = [Arc {

@@ -28,10 +28,10 @@ fn pair_at<R: Register>(
     rate: u32,
     mode: Mode,
 ) -> Option<(Route, Route)>
-    requires from { from < (network register.now).places }
-    requires to { to < (network register.now).places }
+    requires from { from < (R.network register.now).places }
+    requires to { to < (R.network register.now).places }
     requires apart { from ≢ to }
-    ensures { Keeps (network register.now) tables.now → FoundAt (network register.now) (ledger_of tables.now) from to mode rate result }
+    ensures { Keeps (R.network register.now) tables.now → FoundAt (R.network register.now) (ledger_of tables.now) from to mode rate result }
 {
     let arcs = arcs(register, tables, rate, mode);
     let arcs = &arcs[0..register.circuits() as usize];
@@ -59,7 +59,7 @@ fn pair_at<R: Register>(
 
 // The cost of the circuits that both routes use.
 pub fn shared_cost<R: Register, S: Scale>(register: &R, first: &Route, second: &Route) -> S::Value
-    ensures { result ≡ shared_cost measure (network register.now) (route_of first.now ∷ route_of second.now ∷ []) }
+    ensures { result ≡ shared_cost S.measure (R.network register.now) (route_of first.now ∷ route_of second.now ∷ []) }
 {
     let in_first = marks(first);
     let in_second = marks(second);
@@ -82,10 +82,10 @@ pub fn safest_at<R: Register, S: Scale>(
     rate: u32,
     mode: Mode,
 ) -> Option<Plan<S::Value>>
-    requires from { from < (network register.now).places }
-    requires to { to < (network register.now).places }
+    requires from { from < (R.network register.now).places }
+    requires to { to < (R.network register.now).places }
     requires apart { from ≢ to }
-    ensures { Keeps (network register.now) tables.now → SafestAt measure (network register.now) (ledger_of tables.now) from to mode rate result }
+    ensures { Keeps (R.network register.now) tables.now → SafestAt S.measure (R.network register.now) (ledger_of tables.now) from to mode rate result }
 {
     let (first, second) = pair_at(register, tables, from, to, rate, mode)?;
     let cost = shared_cost::<R, S>(register, &first, &second);

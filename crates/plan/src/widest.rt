@@ -24,10 +24,10 @@ pub fn safest_within<R: Register, S: Scale>(
     mode: Mode,
     limit: S::Value,
 ) -> Result<Plan<S::Value>, Refusal>
-    requires from { from < (network register.now).places }
-    requires to { to < (network register.now).places }
+    requires from { from < (R.network register.now).places }
+    requires to { to < (R.network register.now).places }
     requires apart { from ≢ to }
-    ensures { Keeps (network register.now) tables.now → SafestWithin measure (network register.now) (ledger_of tables.now) from to mode rate limit result }
+    ensures { Keeps (R.network register.now) tables.now → SafestWithin S.measure (R.network register.now) (ledger_of tables.now) from to mode rate limit result }
 {
     let limit = S::held(limit);
     match safest_at::<R, S>(register, tables, from, to, rate, mode) {
@@ -52,10 +52,10 @@ pub fn widest_within<R: Register, S: Scale>(
     mode: Mode,
     limit: S::Value,
 ) -> Result<(u32, Plan<S::Value>), Refusal>
-    requires from { from < (network register.now).places }
-    requires to { to < (network register.now).places }
+    requires from { from < (R.network register.now).places }
+    requires to { to < (R.network register.now).places }
     requires apart { from ≢ to }
-    ensures { Keeps (network register.now) tables.now → WidestWithin measure (network register.now) (ledger_of tables.now) from to mode limit result }
+    ensures { Keeps (R.network register.now) tables.now → WidestWithin S.measure (R.network register.now) (ledger_of tables.now) from to mode limit result }
 {
     let mut low = 0;
     let mut high = MAX_RATE + 1;

@@ -41,7 +41,7 @@ impl Register for TwoPlaces {
 
 // The bandwidth of all circuits of a register together, in kbit/s.
 pub fn total_bandwidth<R: Register>(register: &R) -> u64
-    ensures { result ≡ all_bandwidth (network register.now) }
+    ensures { result ≡ all_bandwidth (R.network register.now) }
 {
     let mut total: u64 = 0;
     for number in 0..register.circuits() {

@@ -140,8 +140,8 @@ impl Scale for Tally {
 
 // The lesser of two values, the first where each is at most the other. By the laws it is at most both.
 pub fn lesser<S: Scale>(a: S::Value, b: S::Value) -> S::Value
-    ensures which { result ≡ (if measure.at_most a b then a else b) }
-    ensures least { AtMost measure result a × AtMost measure result b }
+    ensures which { result ≡ (if S.measure.at_most a b then a else b) }
+    ensures least { AtMost S.measure result a × AtMost S.measure result b }
 {
     let a = S::held(a);
     let b = S::held(b);
@@ -150,14 +150,14 @@ pub fn lesser<S: Scale>(a: S::Value, b: S::Value) -> S::Value
 
 // On every scale, a set that shares less costs at most as much.
 pub fn sharing_less_costs_no_more<S: Scale>() -> u8
-    ensures { SharingLessCostsNoMore measure }
+    ensures { SharingLessCostsNoMore S.measure }
 {
     0
 }
 
 // On every scale, the weights of the shared circuits give the shared cost in whatever order they are joined.
 pub fn order_of_joining_does_not_matter<S: Scale>() -> u8
-    ensures { OrderDoesNotMatter measure }
+    ensures { OrderDoesNotMatter S.measure }
 {
     0
 }

@@ -10,7 +10,7 @@ use std::alloc::{AllocError, Global};
 
 // Each circuit with all of its bandwidth left.
 fn whole_circuits<R: Register>(heap: Global, register: &R) -> Result<Vec<CircuitState>, AllocError>
-    ensures { IfOk result (λ v. (vec_len v ≡ length (network register.now).circuits) × ((c : ℕ) → c < length (network register.now).circuits → (slice_index_or v.items c idle).left ≡ (circuit_of (network register.now) c).bandwidth)) }
+    ensures { IfOk result (λ v. (vec_len v ≡ length (R.network register.now).circuits) × ((c : ℕ) → c < length (R.network register.now).circuits → (slice_index_or v.items c idle).left ≡ (circuit_of (R.network register.now) c).bandwidth)) }
 {
     let count = register.circuits();
     let mut whole = Vec::with_capacity(heap, usize::from(count))?;
@@ -27,7 +27,7 @@ fn whole_circuits<R: Register>(heap: Global, register: &R) -> Result<Vec<Circuit
 impl Tables {
     // Only this wants memory: it reserves room for all that may stand.
     pub fn new<R: Register>(heap: Global, register: &R) -> Result<Tables, AllocError>
-        ensures { IfOk result (λ t. Keeps (network register.now) t × (ledger_of t ≡ nothing_yet)) }
+        ensures { IfOk result (λ t. Keeps (R.network register.now) t × (ledger_of t ≡ nothing_yet)) }
     {
         let circuits = whole_circuits(heap, register)?;
         let feeds = Vec::with_capacity(heap, MAX_STANDING)?;

@@ -5,14 +5,14 @@ use crate::rows::{Feed, Notice};
 
 pub trait Numbered {
     // The number that a record goes by.
-    ghost numberOf: { Self → ℕ };
+    ghost number_of: { Self → ℕ };
 
     fn number(&self) -> u32
-        ensures { result ≡ numberOf self.now };
+        ensures { result ≡ number_of self.now };
 }
 
 impl Numbered for Feed {
-    ghost numberOf = { λ f. f.number };
+    ghost number_of = { λ f. f.number };
 
     fn number(&self) -> u32 {
         self.number
@@ -20,7 +20,7 @@ impl Numbered for Feed {
 }
 
 impl Numbered for Notice {
-    ghost numberOf = { λ x. x.number };
+    ghost number_of = { λ x. x.number };
 
     fn number(&self) -> u32 {
         self.number
@@ -29,7 +29,7 @@ impl Numbered for Notice {
 
 // The place of the first record of that number, or nothing where no record has it.
 pub fn find<T: Numbered>(records: &[T], number: u32) -> Option<usize>
-    ensures { elim result [ None ↦ ((k : ℕ) (d : T) → k < length records.now → numberOf (slice_index_or records.now k d) ≢ number) | Some i ↦ (i < length records.now) × ((d : T) → numberOf (slice_index_or records.now i d) ≡ number) × ((k : ℕ) (d : T) → k < i → numberOf (slice_index_or records.now k d) ≢ number) ] }
+    ensures { elim result [ None ↦ ((k : ℕ) (d : T) → k < length records.now → T.number_of (slice_index_or records.now k d) ≢ number) | Some i ↦ (i < length records.now) × ((d : T) → T.number_of (slice_index_or records.now i d) ≡ number) × ((k : ℕ) (d : T) → k < i → T.number_of (slice_index_or records.now k d) ≢ number) ] }
 {
     for (i, record) in records.iter().enumerate() {
         if record.number() == number {

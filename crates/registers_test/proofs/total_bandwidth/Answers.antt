@@ -4,7 +4,7 @@ use Rattle.std.proofs.lemmas.List.Sums.{sum_by_more}
 use Rattle.network.specs.declared.register.Circuit.{Circuit}
 use Rattle.network.specs.Network.{Network, circuit, no_circuit}
 use Rattle.registers_test.proofs.total_bandwidth.Goals as goal
-use Rattle.registers_test.proofs.total_bandwidth.Goals.{in-Some, in-default}
+use Rattle.registers_test.proofs.total_bandwidth.Goals.{in-Some, in_default}
 
 abbrev width : Circuit → ℕ
 width d = d.bandwidth
@@ -24,7 +24,7 @@ loop-number-preserved g c =
           let s = sum_by_more width n.circuits i no_circuit l in
           let b = ((g.R.Register.proper c.args.register.now).each i l).most_bandwidth in
           (omega (arith, s, e, w.total-is, w.from-total.ensures, c.loop-number.invariant.0), omega (arith, b, e, w.total-is, w.from-total.ensures, c.loop-number.invariant.1)))
-      | in-default w ↦ absurd (omega (arith, w.in-default.ensures, c.from.ensures))
+      | in_default w ↦ absurd (omega (arith, w.in_default.ensures, c.from.ensures))
     ]
 
 -- at the end no circuit is left to tell

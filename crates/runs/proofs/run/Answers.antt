@@ -10,17 +10,17 @@ use Rattle.runs.proofs.run.Goals as goal
 
 pub loop-order-init : goal.loop-order-init
 loop-order-init g c =
-    let made = c.in-ok-book.ensures in
-    (search rules, refl, subst (λ r. Keeps (g.R.Register.network r) c.in-ok-book.book.tables) (sym made.0) made.2, record { ledger = made.1; kept = tt })
+    let made = c.in_ok-book.ensures in
+    (search rules, refl, subst (λ r. Keeps (g.R.Register.network r) c.in_ok-book.book.tables) (sym made.0) made.2, record { ledger = made.1; kept = tt })
 
 pub loop-order-preserved : goal.loop-order-preserved
 loop-order-preserved g c =
     let s = g.S.Scale.measure in
-    let n = g.R.Register.network c.in-ok-book.book.register in
+    let n = g.R.Register.network c.in_ok-book.book.register in
     let inv = c.loop-order.invariant in
     let o = c.order-item.result in
-    let a = c.in-ok-play.field-0 in
-    let played = c.in-ok-play.ensures in
+    let a = c.in_ok-play.field-0 in
+    let played = c.in_ok-play.ensures in
     let t = c.loop-order.book.tables in
     let t' = c.play.new.book.tables in
     let same : g.R.Register.network c.loop-order.book.register ≡ n = ap g.R.Register.network inv.1 in
@@ -36,10 +36,10 @@ pub returns : goal.returns
 returns g c =
     let s = g.S.Scale.measure in
     let inv = c.loop-order.invariant in
-    let made = c.in-ok-book.ensures in
+    let made = c.in_ok-book.ensures in
     let orders = c.args.orders.now in
     let answers = vec_items c.loop-order.answers in
     let all : take c.loop-order.order-index orders ≡ orders = take_all c.loop-order.order-index orders c.loop-order-test.false in (
       omega (arith, inv.0, c.loop-order.auto.order-index-end, c.loop-order-test.false),
-      subst (λ r. Run s (g.R.Register.network r) (entries orders answers)) made.0 (subst (λ os. Run s (g.R.Register.network c.in-ok-book.book.register) (entries os answers)) all inv.3.kept),
+      subst (λ r. Run s (g.R.Register.network r) (entries orders answers)) made.0 (subst (λ os. Run s (g.R.Register.network c.in_ok-book.book.register) (entries os answers)) all inv.3.kept),
     )

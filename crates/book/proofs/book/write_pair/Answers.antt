@@ -6,8 +6,8 @@ use Rattle.book.proofs.book.write_pair.Goals as goal
 pub returns : goal.returns
 returns g c =
     let p = c.args.plan.now in
-    let first = written p.first.length (route_of p.first) c.args.first.now c.write-route.new.list (omega (arith, p.first.short, c.requires.first)) c.write-route.auto.list c.write-route.ensures in
-    let second = written p.second.length (route_of p.second) c.args.second.now c.write-route-2.new.list (omega (arith, p.second.short, c.requires.second)) c.write-route-2.auto.list c.write-route-2.ensures in
+    let first = written p.first.length (route_of p.first) c.args.first.now c.write_route.new.list (omega (arith, p.first.short, c.requires.first)) c.write_route.auto.list c.write_route.ensures in
+    let second = written p.second.length (route_of p.second) c.args.second.now c.write_route-2.new.list (omega (arith, p.second.short, c.requires.second)) c.write_route-2.auto.list c.write_route-2.ensures in
     record {
       pair = (refl, refl);
       routes = (first.0, second.0);

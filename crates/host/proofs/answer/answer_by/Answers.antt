@@ -20,6 +20,6 @@ returns-in-Ok g c =
         second = take pair.lengths.1 c.safest.new.second;
         cost = pair.cost;
         pair = subst (λ l. Safest total n l a.from a.to a.mode a.rate (take pair.lengths.0 c.safest.new.first) (take pair.lengths.1 c.safest.new.second) pair.cost) c.requires.unused right.1.1;
-        written = fronts_written pair.lengths.0 pair.lengths.1 c.safest.new.first c.safest.new.second pair.cost c.args.output.now c.put-answer.new.output c.put-answer.ensures;
+        written = fronts_written pair.lengths.0 pair.lengths.1 c.safest.new.first c.safest.new.second pair.cost c.args.output.now c.put_answer.new.output c.put_answer.ensures;
       },
     )

@@ -14,5 +14,5 @@ returns c =
     let long = route_length first in
     let a = more_bytes buffer c.put16.new.output c.put16-2.new.output 0 (be16 (length first)) (be16 (length second)) 2 c.put16.ensures c.put16-2.ensures (omega arith) refl in
     let b = more_bytes buffer c.put16-2.new.output c.put32.new.output 0 lengths (be32 c.args.cost) 4 a c.put32.ensures (omega arith) refl in
-    let d = more_bytes buffer c.put32.new.output c.put-route.new.output 0 figures (route_bytes first) 8 b c.put-route.ensures (omega arith) refl in
-    at_start (answer_bytes first second c.args.cost) buffer c.put-route-2.new.output (more_bytes buffer c.put-route.new.output c.put-route-2.new.output 0 (figures ++ route_bytes first) (route_bytes second) (8 + 2 * length first) d c.put-route-2.ensures (omega arith) (omega arith))
+    let d = more_bytes buffer c.put32.new.output c.put_route.new.output 0 figures (route_bytes first) 8 b c.put_route.ensures (omega arith) refl in
+    at_start (answer_bytes first second c.args.cost) buffer c.put_route-2.new.output (more_bytes buffer c.put_route.new.output c.put_route-2.new.output 0 (figures ++ route_bytes first) (route_bytes second) (8 + 2 * length first) d c.put_route-2.ensures (omega arith) (omega arith))

@@ -18,4 +18,4 @@ returns-then-count-layout c =
     refused_by s l _ refusal.Tail c.refused-then-count-layout.ensures (end_wrong s l c.requires.so_far c.end-at.result c.end-at.ensures c.requires.marked c.if-image-at-lt4.false (λ h. elim c.then-count-layout.branch [ then-count-layout-via-then-count-layout w ↦ w.if-count-layout.true (told ∙ h.0) | then-count-layout-via-else-count-layout+then-image-at-ne4 w ↦ w.if-image-at-ne4.true h.1 ]))
 
 pub returns : goal.returns
-returns c = complete c.args.image.now c.args.layout c.requires.so_far c.end-at.result c.end-at.ensures c.requires.marked (sym c.read16-count.ensures.is ∙ c.if-count-layout.false) c.if-image-at-ne4.false (λ j h k. (c.type-inv.image j).fits)
+returns c = complete c.args.image.now c.args.layout c.requires.so_far c.end-at.result c.end-at.ensures c.requires.marked (sym c.read16-count.ensures.is ∙ c.if-count-layout.false) c.if-image-at-ne4.false (λ j h k. (c.type_inv.image j).fits)

@@ -11,9 +11,9 @@ returns-then-words-eq0 g c =
     let none : length (texts c.args.words.now) ≡ 0 = omega (arith, texts_length c.args.words.now) in
     inl (nil_from_length (texts c.args.words.now) none, refl)
 
-pub returns-in-default : goal.returns-in-default
-returns-in-default g c =
-    no_verb g.S.Limit.spells (texts c.args.names.now) (texts c.args.words.now) (texts (between 1 (length c.args.words.now) c.args.words.now)) _ (first_and_rest c.args.words.now _ (omega arith)) c.in-default.ensures
+pub returns-in_default : goal.returns-in_default
+returns-in_default g c =
+    no_verb g.S.Limit.spells (texts c.args.names.now) (texts c.args.words.now) (texts (between 1 (length c.args.words.now) c.args.words.now)) _ (first_and_rest c.args.words.now _ (omega arith)) c.in_default.ensures
 
 pub returns : goal.returns
 returns g c =

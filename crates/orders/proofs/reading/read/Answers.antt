@@ -8,7 +8,7 @@ use Rattle.orders.proofs.Splitting.{splits_some, words_more}
 use Rattle.words.specs.Tallies.{front_cut}
 use Rattle.orders.proofs.Whole.{whole_line, long_line}
 use Rattle.orders.proofs.reading.read.Goals as goal
-use Rattle.orders.proofs.reading.read.Goals.{else-loop-count-test, then-loop-count-test+in-default}
+use Rattle.orders.proofs.reading.read.Goals.{else-loop-count-test, then-loop-count-test+in_default}
 
 pub loop-count-preserved : goal.loop-count-preserved
 loop-count-preserved g c =
@@ -29,6 +29,6 @@ returns g c =
       | else-loop-count-test w ↦
           let more = splits_some (drop c.loop-count.at c.args.line.now) in
           long_line g.S.Limit.spells places c.args.line.now kept c.statement.result (omega (arith, texts_length (take c.loop-count.count c.loop-count.words), length-take-le c.loop-count.count c.loop-count.words (omega arith), w.loop-count-test.false)) (more.0, c.loop-count.invariant.3 more.0 more.1) said
-      | then-loop-count-test+in-default w ↦
-          whole_line g.S.Limit.spells places c.args.line.now kept c.statement.result (subst (Splits c.args.line.now) (append-nil kept) (c.loop-count.invariant.3 [] w.in-default.ensures)) said
+      | then-loop-count-test+in_default w ↦
+          whole_line g.S.Limit.spells places c.args.line.now kept c.statement.result (subst (Splits c.args.line.now) (append-nil kept) (c.loop-count.invariant.3 [] w.in_default.ensures)) said
     ]

@@ -4,8 +4,8 @@ use Rattle.plan.proofs.arcs.arcs.Goals as goal
 
 pub loop-c-preserved : goal.loop-c-preserved
 loop-c-preserved g c = (
-  omega (arith, length-set c.loop-c.arcs c.loop-c.c c.arc-at.result),
-  arc_written _ _ _ _ c.loop-c.arcs c.loop-c.c c.arc-at.result (omega (arith, (g.R.Register.proper c.args.register.now).few_circuits)) c.loop-c.invariant.1 c.arc-at.ensures,
+  omega (arith, length-set c.loop-c.arcs c.loop-c.c c.arc_at.result),
+  arc_written _ _ _ _ c.loop-c.arcs c.loop-c.c c.arc_at.result (omega (arith, (g.R.Register.proper c.args.register.now).few_circuits)) c.loop-c.invariant.1 c.arc_at.ensures,
 )
 
 pub returns : goal.returns

@@ -6,16 +6,16 @@ use Rattle.tables.specs.Standing.{ledger_of, route_of}
 use Rattle.plan.specs.Planned.{SafestAt}
 use Rattle.plan.proofs.plan.safest_at.Goals as goal
 
-pub returns-in-err-first : goal.returns-in-err-first
-returns-in-err-first g c =
+pub returns-in_err-first : goal.returns-in_err-first
+returns-in_err-first g c =
     λ keeps.
     let n = g.R.Register.network c.args.register.now in
     let l = ledger_of c.args.tables.now in
     let a = c.args.from in
     let b = c.args.to in
     let m = c.args.mode in
-    let found = c.in-err-first.ensures keeps in
-    subst (SafestAt g.S.Scale.measure n l a b m c.args.rate) (sym c.from-residual.ensures)
+    let found = c.in_err-first.ensures keeps in
+    subst (SafestAt g.S.Scale.measure n l a b m c.args.rate) (sym c.from_residual.ensures)
     (refused_none n l m c.args.rate found.0 found.1 a b g.S.Scale.measure found.2)
 
 pub returns : goal.returns
@@ -27,8 +27,8 @@ returns g c =
     let a = c.args.from in
     let b = c.args.to in
     let m = c.args.mode in
-    let found = c.in-ok-first.ensures keeps in
-    let first = route_of c.in-ok-first.first in
-    let second = route_of c.in-ok-first.second in
-    subst (Safest g.S.Scale.measure n l a b m c.args.rate first second) (sym c.shared-cost-cost.ensures)
+    let found = c.in_ok-first.ensures keeps in
+    let first = route_of c.in_ok-first.first in
+    let second = route_of c.in_ok-first.second in
+    subst (Safest g.S.Scale.measure n l a b m c.args.rate first second) (sym c.shared_cost-cost.ensures)
     (safest_routes g.S.Scale.measure g.met.S.Scale.lawful n l a b m c.args.rate found.0 found.1 (g.R.Register.proper x) first second found.2.0 found.2.1 found.2.2)

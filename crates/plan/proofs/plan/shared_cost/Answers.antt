@@ -23,12 +23,12 @@ loop-c-preserved g c =
     let lawful = g.met.S.Scale.lawful in
     let on : i < length n.circuits = omega arith in
     let low : i < 384 = omega (arith, proper.few_circuits) in
-    let by_first = c.marks-in-first.ensures i low in
-    let by_second = c.marks-in-second.ensures i low in
+    let by_first = c.marks-in_first.ensures i low in
+    let by_second = c.marks-in_second.ensures i low in
     let Next = SoFar s lawful n (first ∷ second ∷ []) (i + 1) in
     elim c.if-shared.branch [
       | then-shared w ↦
-          let is = w.cost-is ∙ w.join-cost.ensures ∙ ap (s.join c.loop-c.cost) (w.weight.ensures ∙ ap (λ y. s.weight y.cost) w.circuit-at.ensures) in
+          let is = w.cost-is ∙ w.join-cost.ensures ∙ ap (s.join c.loop-c.cost) (w.weight.ensures ∙ ap (λ y. s.weight y.cost) w.circuit_at.ensures) in
           subst Next (sym is) (cost_marked s lawful n proper first second i c.loop-c.cost on _ _ true by_first by_second w.if-shared.true c.loop-c.invariant)
       | else-shared w ↦ subst Next (sym w.cost-is) (cost_marked s lawful n proper first second i c.loop-c.cost on _ _ false by_first by_second w.if-shared.false c.loop-c.invariant)
     ]

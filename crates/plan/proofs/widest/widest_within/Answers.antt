@@ -12,7 +12,7 @@ loop-preserved g c =
     let width = c.loop.invariant.0 in
     let more : i < 20 = omega arith in
     let gap : low + 1 < high = omega arith in
-    elim c.match-safest-within.branch [
+    elim c.match-safest_within.branch [
       | in-Ok w ↦
           simp (w.low-is, w.high-is, w.best-is, w.refusal-is)
           (width_up i low high more gap width, λ keeps. raised _ _ _ _ _ _ _ _ _ _ _ _ _ _ (omega arith) (w.in-Ok.ensures keeps) (c.loop.invariant.1 keeps))

@@ -14,25 +14,25 @@ loop-seen-preserved-then-done-seen c =
     explored_scan _ _ _ _ _ _ _ _ c.loop-seen.invariant (omega arith) s.more s.forth s.back
 
 -- no arc leaves the seen places
-pub returns-in-err-start : goal.returns-in-err-start
-returns-in-err-start c =
+pub returns-in_err-start : goal.returns-in_err-start
+returns-in_err-start c =
     let s = c.requires.sound in
     let long : length c.args.arcs.now ≤ length c.args.flow.now = omega (arith, c.requires.proper.few_arcs, c.requires.flow) in
     let none : Refused c.args.arcs.now c.args.from c.args.to =
-    cut_off _ _ _ _ s.0 s.1 s.2 long _ _ _ c.loop-seen.invariant (omega arith) c.loop-seen-test.true c.in-err-start.ensures in
-    rw c.from-residual.ensures none
+    cut_off _ _ _ _ s.0 s.1 s.2 long _ _ _ c.loop-seen.invariant (omega arith) c.loop-seen-test.true c.in_err-start.ensures in
+    rw c.from_residual.ensures none
 
 -- the one that does is on every route
 pub returns-then-arcs-c-lt-BOTH : goal.returns-then-arcs-c-lt-BOTH
 returns-then-arcs-c-lt-BOTH c =
     let s = c.requires.sound in
     let long : length c.args.arcs.now ≤ length c.args.flow.now = omega (arith, c.requires.proper.few_arcs, c.requires.flow) in
-    inr (c.in-ok-start.c, needed _ _ _ _ s.0 s.1 s.2 long _ _ _ c.loop-seen.invariant (omega arith) c.loop-seen-test.true _ c.in-ok-start.ensures.2, omega arith)
+    inr (c.in_ok-start.c, needed _ _ _ _ s.0 s.1 s.2 long _ _ _ c.loop-seen.invariant (omega arith) c.loop-seen-test.true _ c.in_ok-start.ensures.2, omega arith)
 
 pub loop-seen-preserved : goal.loop-seen-preserved
 loop-seen-preserved c =
     let s = c.requires.sound in
-    let e = c.in-ok-start.ensures in
+    let e = c.in_ok-start.ensures in
     let long : length c.args.arcs.now ≤ length c.args.flow.now = omega (arith, c.requires.proper.few_arcs, c.requires.flow) in
-    explored_gate _ _ _ _ s.0 s.1 s.2 long _ _ _ c.loop-seen.invariant (omega arith) c.loop-seen-test.true _ c.in-ok-start.c _ e.2
-    (omega (arith, c.if-arcs-c-lt-BOTH.false, (c.requires.proper.joins c.in-ok-start.c e.2.is).few)) c.see.ensures e.0 e.1
+    explored_gate _ _ _ _ s.0 s.1 s.2 long _ _ _ c.loop-seen.invariant (omega arith) c.loop-seen-test.true _ c.in_ok-start.c _ e.2
+    (omega (arith, c.if-arcs-c-lt-BOTH.false, (c.requires.proper.joins c.in_ok-start.c e.2.is).few)) c.see.ensures e.0 e.1

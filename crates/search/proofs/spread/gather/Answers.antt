@@ -18,9 +18,9 @@ left c =
 pub bounds-seen-done : goal.bounds-seen-done
 bounds-seen-done c = omega (arith, left c, c.loop-seen.invariant.roll.counted)
 
-pub go-back-requires : goal.go-back-requires
-go-back-requires c =
-    let r = on_roll _ _ c.loop-seen.invariant.roll (left (goal.at.go-back-requires c).In-loop-seen) in
+pub go_back-requires : goal.go_back-requires
+go_back-requires c =
+    let r = on_roll _ _ c.loop-seen.invariant.roll (left (goal.at.go_back-requires c).In-loop-seen) in
     record { proper = c.requires.proper; into = c.requires.into; flow = c.requires.flow; roll = c.loop-seen.invariant.roll; place = r.1; seen = r.0 }
 
 pub loop-seen-smaller : goal.loop-seen-smaller
@@ -28,4 +28,4 @@ loop-seen-smaller c = omega (arith, left (goal.at.loop-seen-smaller c).In-loop-s
 
 pub loop-seen-preserved : goal.loop-seen-preserved
 loop-seen-preserved c =
-    begun_scan _ _ _ _ _ _ _ (λ d h. h) c.go-back.ensures.more _ c.loop-seen.invariant (left (goal.at.loop-seen-preserved c).In-loop-seen) c.go-back.ensures.spent
+    begun_scan _ _ _ _ _ _ _ (λ d h. h) c.go_back.ensures.more _ c.loop-seen.invariant (left (goal.at.loop-seen-preserved c).In-loop-seen) c.go_back.ensures.spent

@@ -3,10 +3,10 @@ use Rattle.std.proofs.lemmas.Bool.{eqb-false}
 use Rattle.words.specs.Decimals.{SoFar, so_far_more, digit_fits, number_read}
 use Rattle.words.proofs.figures.number.Goals as goal
 
-pub returns-in-default : goal.returns-in-default
-returns-in-default c = λ x h.
+pub returns-in_default : goal.returns-in_default
+returns-in_default c = λ x h.
     let f = digit_fits c.args.word.now c.loop-b.n c.loop-b.b-index x c.loop-b-test.true c.loop-b.invariant.1 h in
-    c.in-default.ensures _ (f.0, refl, f.1)
+    c.in_default.ensures _ (f.0, refl, f.1)
 
 pub loop-b-preserved : goal.loop-b-preserved
 loop-b-preserved c =
@@ -18,4 +18,4 @@ loop-b-preserved c =
 
 pub returns : goal.returns
 returns c =
-    number_read c.args.word.now c.loop-b.n c.loop-b.b-index (omega (arith, eqb-false _ _ (sym c.if-is-empty.ensures))) c.loop-b-test.false c.loop-b.invariant.0 c.loop-b.invariant.1 c.loop-b.invariant.2
+    number_read c.args.word.now c.loop-b.n c.loop-b.b-index (omega (arith, eqb-false _ _ (sym c.if-is_empty.ensures))) c.loop-b-test.false c.loop-b.invariant.0 c.loop-b.invariant.1 c.loop-b.invariant.2

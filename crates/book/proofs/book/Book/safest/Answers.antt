@@ -13,13 +13,13 @@ returns g c =
     let l = ledger_of c.args.self.now.tables in
     let a = c.args.ask in
     let p = c.in-Some.plan in
-    let w = c.write-pair.ensures in
+    let w = c.write_pair.ensures in
     record {
       right = λ keeps.
           let safe = c.in-Some.ensures keeps in
           record {
             right = (
-              (not_from_Decides c.bad-places.result c.bad-places.ensures c.if-bad-places.false, (not_from_Decides c.bad-rate.result c.bad-rate.ensures c.if-bad-rate.false, (not_from_Decides c.short-lists.result c.short-lists.ensures c.if-short-lists.false, ((λ none. none (route_of p.first ∷ route_of p.second ∷ []) safe.choice), tt)))),
+              (not_from_Decides c.bad_places.result c.bad_places.ensures c.if-bad_places.false, (not_from_Decides c.bad_rate.result c.bad_rate.ensures c.if-bad_rate.false, (not_from_Decides c.short_lists.result c.short_lists.ensures c.if-short_lists.false, ((λ none. none (route_of p.first ∷ route_of p.second ∷ []) safe.choice), tt)))),
               planned_same s n l (safest a.from a.to a.rate a.mode) a.rate _ (route_of p.first) _ (route_of p.second) _ p.cost _ w.pair.0 w.routes.0 w.routes.1 w.pair.1 (refl, safe),
             );
             told_ledger = refl;

@@ -15,7 +15,7 @@ returns g c = λ keeps.
     let at : c.in-Some.i < length (ledger_of t).feeds = omega (arith, length-map (vec_items t.feeds) feed_of, t.feeds.ok.0, found.0) in
     record {
       right = (
-        ((λ z. c.if-feed-eq0.false z), ((λ bad. ⊎_elim (λ (none : Stands feed_number c.args.feed (ledger_of t).feeds → ⊥). none found.2) (λ (past : length n.circuits ≤ c.args.circuit). absurd (not_from_Decides c.no_circuit.result c.no_circuit.ensures c.if-no-circuit.false past)) bad), tt)),
+        ((λ z. c.if-feed-eq0.false z), ((λ bad. ⊎_elim (λ (none : Stands feed_number c.args.feed (ledger_of t).feeds → ⊥). none found.2) (λ (past : length n.circuits ≤ c.args.circuit). absurd (not_from_Decides c.no_circuit.result c.no_circuit.ensures c.if-no_circuit.false past)) bad), tt)),
         subst (λ (k : ℕ). Used s n (ledger_of t) c.args.feed c.args.circuit k (ledger_of t).feeds) (sym c.uses.ensures) (used_at s n (ledger_of t) c.args.feed c.args.circuit (ledger_of t).feeds c.in-Some.i no_feed at found.1),
       );
       told_ledger = refl;

@@ -12,18 +12,18 @@ returns g c =
     let n = g.R.Register.network c.args.self.now.register in
     let s = g.S.Scale.measure in
     let l = ledger_of c.args.self.now.tables in
-    let p = c.in-ok-rate.plan in
-    let r = c.in-ok-rate.rate in
-    let w = c.write-pair.ensures in
+    let p = c.in_ok-rate.plan in
+    let r = c.in_ok-rate.rate in
+    let w = c.write_pair.ensures in
     let lawful = g.met.S.Scale.lawful in
     record {
       right = λ keeps.
-          let wide = c.in-ok-rate.ensures keeps in
+          let wide = c.in_ok-rate.ensures keeps in
           let f = route_of p.first in
           let h = route_of p.second in
           record {
             right = (
-              (not_from_Decides c.bad-places.result c.bad-places.ensures c.if-bad-places.false, (not_from_Decides c.short-lists.result c.short-lists.ensures c.if-short-lists.false, ((λ none. not_no_pair s lawful n l c.args.from c.args.to c.args.mode r 1 f h p.cost wide.safest_pair wide.some none), ((λ none. not_none_within s lawful n l c.args.from c.args.to c.args.mode r 1 f h p.cost c.args.limit wide.safest_pair wide.within wide.some none), tt)))),
+              (not_from_Decides c.bad_places.result c.bad_places.ensures c.if-bad_places.false, (not_from_Decides c.short_lists.result c.short_lists.ensures c.if-short_lists.false, ((λ none. not_no_pair s lawful n l c.args.from c.args.to c.args.mode r 1 f h p.cost wide.safest_pair wide.some none), ((λ none. not_none_within s lawful n l c.args.from c.args.to c.args.mode r 1 f h p.cost c.args.limit wide.safest_pair wide.within wide.some none), tt)))),
               planned_same s n l (widest c.args.from c.args.to c.args.mode c.args.limit) r _ f _ h _ p.cost _ w.pair.0 w.routes.0 w.routes.1 w.pair.1 wide,
             );
             told_ledger = refl;
@@ -32,14 +32,14 @@ returns g c =
       lists = w.lists;
     }
 
-pub returns-in-err-rate : goal.returns-in-err-rate
-returns-in-err-rate g c =
-    let p = err_from_is_err_and c.from-residual.result c.from-residual.ensures.1 in
-    let places = not_from_Decides c.bad-places.result c.bad-places.ensures c.if-bad-places.false in
-    let lists = not_from_Decides c.short-lists.result c.short-lists.ensures c.if-short-lists.false in
+pub returns-in_err-rate : goal.returns-in_err-rate
+returns-in_err-rate g c =
+    let p = err_from_is_err_and c.from_residual.result c.from_residual.ensures.1 in
+    let places = not_from_Decides c.bad_places.result c.bad_places.ensures c.if-bad_places.false in
+    let lists = not_from_Decides c.short_lists.result c.short_lists.ensures c.if-short_lists.false in
     rw (p.1, p.2) (record {
       right = λ keeps. record {
-        right = inr (places, inr (lists, declined_first g.S.Scale.measure (g.R.Register.network c.args.self.now.register) (ledger_of c.args.self.now.tables) c.args.from c.args.to c.args.mode 1 c.args.limit c.in-err-rate.field-0.0 (c.in-err-rate.ensures keeps)));
+        right = inr (places, inr (lists, declined_first g.S.Scale.measure (g.R.Register.network c.args.self.now.register) (ledger_of c.args.self.now.tables) c.args.from c.args.to c.args.mode 1 c.args.limit c.in_err-rate.field-0.0 (c.in_err-rate.ensures keeps)));
         told_ledger = refl;
         keeps = keeps;
       };

@@ -21,4 +21,4 @@ returns c =
     let s = c.args.self.now in
     let bytes = s.image.now in
     let last : c.loop-i.i ≡ c.args.number = omega arith in
-    held_named bytes s.layout c.args.number c.loop-i.at c.read-name.result.now s.held (omega arith) (c.loop-i.invariant.0 ∙ ap (place_offset bytes) last) c.read-name.ensures.is
+    held_named bytes s.layout c.args.number c.loop-i.at c.read_name.result.now s.held (omega arith) (c.loop-i.invariant.0 ∙ ap (place_offset bytes) last) c.read_name.ensures.is

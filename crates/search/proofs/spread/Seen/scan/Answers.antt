@@ -6,8 +6,8 @@ use Rattle.search.proofs.spread.Seen.scan.Goals as goal
 
 pub returns : goal.returns
 returns c =
-    let forth = c.go-forth.ensures in
-    let back = c.go-back.ensures in
+    let forth = c.go_forth.ensures in
+    let back = c.go_back.ensures in
     record {
       more = more_more c.args.arcs.now c.args.flow.now (Unused c.args.arcs.now c.args.flow.now) Never _ _ _ (λ d h. absurd h) forth.more back.more;
       forth = λ d l at u. stays _ _ _ _ _ back.more (arc c.args.arcs.now d).to (forth.spent d l at u);

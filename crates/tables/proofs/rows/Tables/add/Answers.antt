@@ -11,8 +11,8 @@ returns c =
     let long = c.take.ensures.circuits in
     let left = c.take.ensures.left in
     let notices = c.take.ensures.notices in
-    let feeds : map feed_of (vec_items c.push-reserved.new.self) ≡ map feed_of (vec_items old.feeds) ++ f ∷ [] =
-    ap (map feed_of) c.push-reserved.ensures.items ∙ map_push feed_of (vec_items c.take.new.self.feeds) c.args.feed
+    let feeds : map feed_of (vec_items c.push_reserved.new.self) ≡ map feed_of (vec_items old.feeds) ++ f ∷ [] =
+    ap (map feed_of) c.push_reserved.ensures.items ∙ map_push feed_of (vec_items c.take.new.self.feeds) c.args.feed
     ∙ ap (λ v. map feed_of (vec_items v) ++ f ∷ []) c.take.ensures.feeds in
     record {
       feeds = feeds;

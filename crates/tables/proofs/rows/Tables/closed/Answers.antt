@@ -5,7 +5,7 @@ use Rattle.tables.specs.declared.rows.Notice.{Notice}
 use Rattle.tables.proofs.Marking.{Marked, marked_none, marked_more, marked_past}
 use Rattle.tables.proofs.Opening.{named, unnamed_from_unused, used_not_unnamed}
 use Rattle.tables.proofs.rows.Tables.closed.Goals as goal
-use Rattle.tables.proofs.rows.Tables.closed.Goals.{then-c-lt-MAX-CIRCUITS, else-c-lt-MAX-CIRCUITS}
+use Rattle.tables.proofs.rows.Tables.closed.Goals.{then-c-lt-MAX_CIRCUITS, else-c-lt-MAX_CIRCUITS}
 
 pub loop-notice-init : goal.loop-notice-init
 loop-notice-init c = marked_none
@@ -17,10 +17,10 @@ loop-notice-preserved c =
     let none : Notice = record { number = 0; circuit = 0 } in
     let d = (get_or xs i none).circuit in
     let more : named (take (i + 1) xs) ≡ named (take i xs) ++ d ∷ [] = map_more (λ (x : Notice). x.circuit) xs i none c.loop-notice-test.true in
-    subst (λ cs. Marked c.if-c-lt-MAX-CIRCUITS.closed cs) (sym more)
-    (elim c.if-c-lt-MAX-CIRCUITS.branch [
-      | then-c-lt-MAX-CIRCUITS w ↦ rw w.closed-is (marked_more c.loop-notice.closed (named (take i xs)) d w.if-c-lt-MAX-CIRCUITS.true c.loop-notice.invariant)
-      | else-c-lt-MAX-CIRCUITS w ↦ rw w.closed-is (marked_past c.loop-notice.closed (named (take i xs)) d w.if-c-lt-MAX-CIRCUITS.false c.loop-notice.invariant)
+    subst (λ cs. Marked c.if-c-lt-MAX_CIRCUITS.closed cs) (sym more)
+    (elim c.if-c-lt-MAX_CIRCUITS.branch [
+      | then-c-lt-MAX_CIRCUITS w ↦ rw w.closed-is (marked_more c.loop-notice.closed (named (take i xs)) d w.if-c-lt-MAX_CIRCUITS.true c.loop-notice.invariant)
+      | else-c-lt-MAX_CIRCUITS w ↦ rw w.closed-is (marked_past c.loop-notice.closed (named (take i xs)) d w.if-c-lt-MAX_CIRCUITS.false c.loop-notice.invariant)
     ])
 
 pub returns : goal.returns

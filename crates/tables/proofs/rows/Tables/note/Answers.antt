@@ -11,8 +11,8 @@ pub returns : goal.returns
 returns c =
     let old = c.args.self.now in
     let x = notice_of c.args.notice in
-    let notices : map notice_of (vec_items c.push-reserved.new.self) ≡ map notice_of (vec_items old.notices) ++ x ∷ [] =
-    ap (map notice_of) c.push-reserved.ensures.items ∙ map_push notice_of (vec_items old.notices) c.args.notice in
+    let notices : map notice_of (vec_items c.push_reserved.new.self) ≡ map notice_of (vec_items old.notices) ++ x ∷ [] =
+    ap (map notice_of) c.push_reserved.ensures.items ∙ map_push notice_of (vec_items old.notices) c.args.notice in
     record {
       ledger = λ j. record { feeds = (ledger_of old).feeds; notices = notices j };
       feeds = refl;

@@ -14,13 +14,13 @@ returns c =
     let i = c.args.i in
     let within : i < length (ledger_of old).feeds = omega (arith, feeds_length old) in
     let same : feed_at old i ≡ feed_of c.remove-feed.result = feed_read old i c.remove-feed.result c.requires c.remove-feed.ensures.value in
-    let long = c.give-back.ensures.circuits in
-    let notices = c.give-back.ensures.notices in
-    let feeds : map feed_of (vec_items c.give-back.new.self.feeds) ≡ remove (ledger_of old).feeds i =
-    ap (λ v. map feed_of (vec_items v)) c.give-back.ensures.feeds ∙ ap (map feed_of) c.remove-feed.ensures.items ∙ map_removed feed_of (vec_items old.feeds) i in
-    let left : (k : ℕ) → k < vec_len old.circuits → More old (feed_at old i) k (left_at c.give-back.new.self k) =
-    subst (λ f. (k : ℕ) → k < vec_len old.circuits → More old f k (left_at c.give-back.new.self k)) (sym same) c.give-back.ensures.left in
-    let told : map notice_of (vec_items c.give-back.new.self.notices) ≡ (ledger_of old).notices = ap (λ v. map notice_of (vec_items v)) notices in
+    let long = c.give_back.ensures.circuits in
+    let notices = c.give_back.ensures.notices in
+    let feeds : map feed_of (vec_items c.give_back.new.self.feeds) ≡ remove (ledger_of old).feeds i =
+    ap (λ v. map feed_of (vec_items v)) c.give_back.ensures.feeds ∙ ap (map feed_of) c.remove-feed.ensures.items ∙ map_removed feed_of (vec_items old.feeds) i in
+    let left : (k : ℕ) → k < vec_len old.circuits → More old (feed_at old i) k (left_at c.give_back.new.self k) =
+    subst (λ f. (k : ℕ) → k < vec_len old.circuits → More old f k (left_at c.give_back.new.self k)) (sym same) c.give_back.ensures.left in
+    let told : map notice_of (vec_items c.give_back.new.self.notices) ≡ (ledger_of old).notices = ap (λ v. map notice_of (vec_items v)) notices in
     record {
       feeds = feeds;
       notices = notices;

@@ -16,8 +16,8 @@ loop-number-preserved c =
     let within : i < old.circuits.len = omega arith in
     let marked : i < 384 = omega (arith, old.few_circuits) in
     let taken : c.amount-taken.result ≡ taken_by f i = c.amount-taken.ensures i f.first f.second (c.marks-first.ensures i marked) (c.marks-second.ensures i marked) in
-    let left : c.circuit-mut-circuit.result.now.left ≡ left_at old i = ap (λ (s : CircuitState). s.left) c.circuit-mut-circuit.ensures.value ∙ so.after i (omega arith) in
-    changed_more (Less old f) old c.loop-number.self i (record { left = c.saturating-sub-circuit.result }) within so (omega (arith, c.saturating-sub-circuit.ensures))
+    let left : c.circuit_mut-circuit.result.now.left ≡ left_at old i = ap (λ (s : CircuitState). s.left) c.circuit_mut-circuit.ensures.value ∙ so.after i (omega arith) in
+    changed_more (Less old f) old c.loop-number.self i (record { left = c.saturating_sub-circuit.result }) within so (omega (arith, c.saturating_sub-circuit.ensures))
 
 pub returns : goal.returns
 returns c =

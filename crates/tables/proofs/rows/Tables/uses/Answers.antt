@@ -18,7 +18,7 @@ returns c =
     let k = c.args.circuit in
     let x = feed_of c.index-feed.result.now in
     let same = feed_read c.args.self.now c.args.i c.index-feed.result.now c.requires c.index-feed.ensures in
-    let first = c.from.ensures ∙ ap bool_byte c.on-route.ensures in
-    let second = c.from-2.ensures ∙ ap bool_byte c.on-route-2.ensures in
+    let first = c.from.ensures ∙ ap bool_byte c.on_route.ensures in
+    let second = c.from-2.ensures ∙ ap bool_byte c.on_route-2.ensures in
     ap (λ n. n + c.from-2.result) first ∙ ap (λ n. bool_byte (uses k x.first) + n) second ∙ counted (uses k x.first) (uses k x.second)
     ∙ sym (ap (λ (f : ledger.Feed). times k (f.first ∷ f.second ∷ [])) same)
