@@ -5,9 +5,8 @@ set -eu
 cd "$(dirname "$0")/.."
 out=target/bench
 mkdir -p "$out"
-rt staticlib host >"$out/staticlib.log" 2>&1 || { cat "$out/staticlib.log" >&2; exit 1; }
-kit=$(dirname "$(dirname "$(rt doc)")")
-"${CXX:-g++}" -O3 -std=c++17 -Wall -o "$out/pairs" bench/*.cpp target/staticlib/libhost.a "$kit/lib/librattle_c.a" -llemon
+tools/build host >"$out/staticlib.log" 2>&1 || { cat "$out/staticlib.log" >&2; exit 1; }
+"${CXX:-g++}" -O3 -std=c++17 -Wall -o "$out/pairs" bench/*.cpp target/staticlib/libhost.a "$(tools/build c-support)" -llemon
 "$out/pairs"
 for way in entry load linear simplex scaling; do
     n=$(valgrind --tool=callgrind --callgrind-out-file="$out/callgrind.$way" --collect-atstart=no \
