@@ -1,6 +1,6 @@
 -- Every line has words, and just one list of them.
 use Rattle.std.proofs.Common.{◌≡◌, ℕ, ◌+◌, ◌-◌, ◌<◌, ◌≤◌, ◌⊎◌, List, [], ◌∷◌, ◌++◌, length, get_or, take, drop, set, sym, refl, ap, ◌∙◌, subst, inl, inr, ⊎_elim, append_assoc, arith, Bor}
-use Rattle.std.specs.List.{between, AllByRecursion as All}
+use Rattle.std.specs.List.{between, AllByRecursion}
 use Rattle.std.proofs.ByRecursion.{All-from_get_or}
 use Rattle.std.proofs.lemmas.List.Edits.{length-between, get_or-between}
 use Rattle.std.proofs.lemmas.List.{take-append-drop, drop-drop, drop_more, drop_all, take_more_set, map_push}
@@ -9,7 +9,7 @@ use Rattle.words.specs.Figures.{texts}
 use Rattle.orders.specs.Lines.{Blank, Inner, Off, Ends, Word, Splits, Next}
 
 -- a run of bytes of a kind, up to the first byte of another, is one
-pub run_once : (P : ℕ → Type 0) (xs ys r s : List ℕ) → All P xs → All P ys → Off P r → Off P s → xs ++ r ≡ ys ++ s → (xs ≡ ys) × (r ≡ s)
+pub run_once : (P : ℕ → Type 0) (xs ys r s : List ℕ) → AllByRecursion P xs → AllByRecursion P ys → Off P r → Off P s → xs ++ r ≡ ys ++ s → (xs ≡ ys) × (r ≡ s)
 run_once P [] [] r s a b h k e = (refl, e)
 run_once P [] (y ∷ ys) [] s a b h k e = absurd (let z : ◌≡◌ {A = ℕ} 0 1 = cc in omega arith)
 run_once P [] (y ∷ ys) (x ∷ r) s a b h k e = absurd (h (let q : y ≡ x = cc in subst P q b.0))
@@ -63,7 +63,7 @@ kind_by b (inr n) (inr m) (inr o) (inr p) = inr (inr (⊎_elim n (⊎_elim m o),
 kind : (b : ℕ) → Kind b
 kind b = kind_by b (cases_eq b 32) (cases_eq b 9) (cases_eq b 13) (cases_eq b 35)
 
-off_inner : (gap rest : List ℕ) → All Blank gap → Ends rest → Off Inner (gap ++ rest)
+off_inner : (gap rest : List ℕ) → AllByRecursion Blank gap → Ends rest → Off Inner (gap ++ rest)
 off_inner [] [] g h = tt
 off_inner [] (b ∷ rest) g h = λ i. i.1 h
 off_inner (b ∷ gap) rest g h = λ i. i.0 g.0
@@ -79,7 +79,7 @@ longer_word : (b : ℕ) (w : List ℕ) → Inner b → Word w → Word (b ∷ w)
 longer_word b w k h = (omega arith, (k, h.1))
 
 -- a byte of a word in front of a line whose first word stands after that gap
-join_inner : (b : ℕ) (line w : List ℕ) (ws : List (List ℕ)) (gap rest : List ℕ) → Inner b → line ≡ gap ++ (w ++ rest) → All Blank gap → Word w → Off Inner rest → Splits rest ws → (words : List (List ℕ)) × Splits (b ∷ line) words
+join_inner : (b : ℕ) (line w : List ℕ) (ws : List (List ℕ)) (gap rest : List ℕ) → Inner b → line ≡ gap ++ (w ++ rest) → AllByRecursion Blank gap → Word w → Off Inner rest → Splits rest ws → (words : List (List ℕ)) × Splits (b ∷ line) words
 join_inner b line w ws [] rest k e g h o s = ((b ∷ w) ∷ ws, ([], rest, ap (λ l. b ∷ l) e, tt, longer_word b w k h, o, s))
 join_inner b line w ws (x ∷ gap) rest k e g h o s =
     ((b ∷ []) ∷ w ∷ ws, ([], line, refl, tt, one_byte b k, subst (Off Inner) (sym e) (λ i. i.0 g.0), (x ∷ gap, rest, e, g, h, o, s)))
@@ -104,7 +104,7 @@ cut line i j h =
     let e : i + (j - i) ≡ j = omega arith in
     sym (take-append-drop (j - i) (drop i line)) ∙ ap (λ r. between i j line ++ r) (drop-drop (j - i) i line ∙ ap (λ n. drop n line) e)
 
-all_between : (P : ℕ → Type 0) (line : List ℕ) (i j : ℕ) → j ≤ length line → ((k : ℕ) → i ≤ k → k < j → P (get_or line k 0)) → All P (between i j line)
+all_between : (P : ℕ → Type 0) (line : List ℕ) (i j : ℕ) → j ≤ length line → ((k : ℕ) → i ≤ k → k < j → P (get_or line k 0)) → AllByRecursion P (between i j line)
 all_between P line i j within f =
     All-from_get_or P (between i j line) 0
     (λ k h. let l : i + k < j = omega (arith, length-between line i j within) in subst P (sym (get_or-between line i j k 0 l)) (f (i + k) (omega arith) l))

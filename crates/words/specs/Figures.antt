@@ -1,7 +1,7 @@
 -- What the single words of an order stand for: numbers, places, modes and limits. Assumes nothing.
 use Rattle.std.specs.Prelude.{◌≡◌, ℕ, ◌+◌, ◌-◌, ◌*◌, ◌^◌, ◌<◌, ◌≤◌, ◌⊎◌, List, [], ◌∷◌, ◌++◌, map, length, Some, None, Ok, Err, codes, Option, Result, ◌≢◌, slice_index, slice_index_or}
 use Rattle.std.specs.Borrow.{Bor}
-use Rattle.std.specs.List.{AllByRecursion as All}
+use Rattle.std.specs.List.{AllByRecursion}
 use Rattle.promise.specs.declared.Mode.{Mode}
 use Rattle.promise.specs.declared.Mode.TheVariants.{OnePlusOne, OneToOne}
 
@@ -25,7 +25,7 @@ decimal (c ∷ cs) = (c - 48) * 10 ^ length cs + decimal cs
 
 -- a number of so many bits: one digit or more, and nothing else
 abbrev pub Numeral : ℕ → List ℕ → ℕ → Type 0
-Numeral bits word n = (0 < length word) × All Digit word × (n ≡ decimal word) × (n < 2 ^ bits)
+Numeral bits word n = (0 < length word) × AllByRecursion Digit word × (n ≡ decimal word) × (n < 2 ^ bits)
 
 -- the texts that a list of borrowed texts holds
 abbrev pub texts : List (Bor (List ℕ)) → List (List ℕ)
@@ -38,7 +38,7 @@ Named names word n =
 
 -- a place goes by its number, or by its name where the word is not all digits
 abbrev pub Place : List (List ℕ) → List ℕ → ℕ → Type 0
-Place names word n = (All Digit word × Numeral 32 word n) ⊎ ((All Digit word → ⊥) × Named names word n)
+Place names word n = (AllByRecursion Digit word × Numeral 32 word n) ⊎ ((AllByRecursion Digit word → ⊥) × Named names word n)
 
 abbrev pub mode_text : Mode → List ℕ
 mode_text OnePlusOne = codes "1+1"

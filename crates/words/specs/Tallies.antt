@@ -1,7 +1,7 @@
 -- A limit by tally is cut at its first colon.
 use Rattle.std.specs.Prelude.{◌≡◌, ℕ, ◌+◌, ◌-◌, ◌<◌, ◌≤◌, ◌⊎◌, List, [], ◌∷◌, ◌++◌, length, take, drop, slice_index_or, refl}
 use Rattle.std.proofs.Common.{sym, ap, subst, ◌∙◌, inl, inr, arith, add-one, length-append}
-use Rattle.std.specs.List.{between, AllByRecursion as All}
+use Rattle.std.specs.List.{between, AllByRecursion}
 use Rattle.std.proofs.ByRecursion.{All-get_or}
 use Rattle.std.proofs.lemmas.List.{take-append-drop, drop_more, take_at, drop_at, get_or_at, get_or_append_left, take_rest}
 use Rattle.std.proofs.lemmas.Bool.{cases_order}
@@ -9,7 +9,7 @@ use Rattle.words.specs.Figures.{Digit, Numeral, FirstColon, TallyLimit, Single}
 use Rattle.words.specs.Decimals.{numeral_single}
 
 -- after digits the first colon stands
-pub colon_after : (count total : List ℕ) → All Digit count → FirstColon (count ++ (58 ∷ total)) (length count)
+pub colon_after : (count total : List ℕ) → AllByRecursion Digit count → FirstColon (count ++ (58 ∷ total)) (length count)
 colon_after count total digits =
     (omega (arith, length-append count (58 ∷ total)), get_or_at count 58 total 0 (length count) refl, λ k h e. let d = All-get_or Digit count k 0 h digits in let f : slice_index_or count k 0 ≡ 58 = sym (get_or_append_left count (58 ∷ total) 0 k h) ∙ e in omega (arith, d))
 

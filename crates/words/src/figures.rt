@@ -1,6 +1,6 @@
 // The reading of single words: numbers, places and modes.
 ghost use Rattle.std.specs.Prelude.{◌≡◌, ℕ, ◌+◌, ◌-◌, ◌*◌, ◌^◌, ◌<◌, Decides};
-ghost use Rattle.std.specs.List.{AllByRecursion as All};
+ghost use Rattle.std.specs.List.{AllByRecursion};
 ghost use Rattle.words.specs.Figures.{Reads, Found, Digit, Numeral, Named, Place, mode_text, texts};
 
 use crate::faults::{Fault, Part};
@@ -47,7 +47,7 @@ pub fn number(word: &[u8]) -> Option<u32>
 
 // Whether the word is all digits.
 fn all_digits(word: &[u8]) -> bool
-    ensures { Decides result (All Digit word.now) }
+    ensures { Decides result (AllByRecursion Digit word.now) }
 {
     for b in word {
         if !is_digit(*b) {
