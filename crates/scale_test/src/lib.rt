@@ -1,8 +1,7 @@
 // A fourth scale, made outside the crate of scales, and cases for the three inside it.
 #![tactic(auto)]
 
-ghost use Rattle.scale_test.specs.Even.{even as even_measure};
-ghost use Rattle.std.proofs.Common.{rules};
+ghost use Rattle.scale_test.specs.Even.{even as even_measure, even_lawful};
 
 use scale::Scale;
 
@@ -15,7 +14,7 @@ impl Scale for Even {
 
     ghost measure = { even_measure };
 
-    ghost lawful = { Prim.search rules };
+    ghost lawful = { even_lawful };
 
     fn zero() {}
 

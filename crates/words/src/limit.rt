@@ -1,7 +1,7 @@
 // How the limit of an order is written, by each scale.
 ghost use Rattle.std.specs.Prelude.{ℕ, List};
 ghost use Rattle.words.specs.Figures.{Found, Numeral, FirstColon, TallyLimit, Single};
-ghost use Rattle.std.proofs.Common.{rules};
+ghost use Rattle.words.specs.Decimals.{numeral_single};
 ghost use Rattle.words.specs.Tallies.{tally_single};
 
 use crate::figures::number;
@@ -41,7 +41,7 @@ pub trait Limit: Scale {
 impl Limit for Total {
     ghost spells = { Numeral 32 };
 
-    ghost single = { Prim.search rules };
+    ghost single = { numeral_single 32 };
 
     fn read_limit(word: &[u8]) -> Option<u32> {
         number(word)
@@ -55,7 +55,7 @@ impl Limit for Total {
 impl Limit for Worst {
     ghost spells = { Numeral 32 };
 
-    ghost single = { Prim.search rules };
+    ghost single = { numeral_single 32 };
 
     fn read_limit(word: &[u8]) -> Option<u32> {
         number(word)
