@@ -1,5 +1,5 @@
 -- From a plan to the answer of a call.
-use Rattle.std.proofs.Common.{◌≡◌, ℕ, ◌+◌, ◌-◌, ◌<◌, ◌≤◌, List, [], ◌∷◌, ◌++◌, map, length, take, drop, vec_items, sym, refl, ap, ◌∙◌, subst, inl, inr, arith, length-append, length-drop}
+use Rattle.std.proofs.Common.{◌≡◌, ℕ, ◌≤◌, List, [], ◌∷◌, ◌++◌, map, length, take, drop, vec_items, sym, ap, ◌∙◌, subst, inl, inr, arith, length-append, length-drop}
 use Rattle.std.proofs.lemmas.List.{take-append-le, take_all}
 use Rattle.std.proofs.lemmas.List.Prefix.{front_rest}
 use Rattle.network.specs.Network.{Network}
@@ -10,7 +10,6 @@ use Rattle.network.specs.Refusals.{number_of}
 use Rattle.network.specs.Checks.{First, check}
 use Rattle.promise.specs.declared.Mode.{Mode}
 use Rattle.promise.specs.Promise.{Plan, Planned, NoPair, NoneWithin}
-use Rattle.promise.specs.Ledger as ledger
 use Rattle.tables.specs.declared.rows.Tables.{Tables}
 use Rattle.tables.specs.Standing.{ledger_of, notice_of}
 use Rattle.plan.specs.Planned.{Declined}

@@ -1,10 +1,9 @@
 -- What a call on a book answers, as the ledger is told it, and what every call on a book promises. Assumes nothing.
-use Rattle.std.specs.Prelude.{◌≡◌, ℕ, ◌≤◌, Bool, cond, List, length, take, drop, Ok, Err, Result}
+use Rattle.std.specs.Prelude.{◌≡◌, ℕ, ◌≤◌, Bool, cond, List, take, drop, Ok, Err, Result}
 use Rattle.network.specs.declared.refusal.Refusal.{Refusal}
 use Rattle.network.specs.Refusals.{number_of}
 use Rattle.network.specs.Network.{Network}
 use Rattle.scale.specs.Measure.{Measure}
-use Rattle.promise.specs.Ledger.{Ledger}
 use Rattle.promise.specs.Promise.{Call, Answer, refused, pair, done, told, Right, after}
 use Rattle.tables.specs.declared.rows.Tables.{Tables}
 use Rattle.tables.specs.Standing.{ledger_of, Keeps}

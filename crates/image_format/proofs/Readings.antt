@@ -1,7 +1,7 @@
 -- The bytes of an image, and of a refused load, determine what was read.
 use Rattle.std.proofs.Common.{◌≡◌, ℕ, ◌+◌, ◌<◌, ◌≤◌, ◌⊎◌, List, [], ◌∷◌, ◌++◌, map, length, take, drop, sym, refl, ap, ◌∙◌, subst, inl, inr, append_assoc, arith, length-append}
 use Rattle.std.proofs.lemmas.List.{take_at, drop_at}
-use Rattle.network.specs.Checks.{Check, First, Passed}
+use Rattle.network.specs.Checks.{First, Passed}
 use Rattle.network.specs.declared.register.Circuit.{Circuit}
 use Rattle.network.specs.Network.{Sound, BadEnds, BadFigures}
 use Rattle.network.specs.Routes.{Each}

@@ -1,8 +1,8 @@
 -- Every list of bytes is an image or is refused.
 use Rattle.std.proofs.Common.{◌≡◌, ℕ, zero, suc, ◌+◌, ◌<◌, ◌≤◌, ◌⊎◌, List, [], ◌∷◌, ◌++◌, length, get_or, take, drop, refl, ap, ◌∙◌, inl, inr, ⊎_elim, arith, length-append}
 use Rattle.std.proofs.lemmas.List.{nil_from_length}
-use Rattle.std.proofs.lemmas.Bool.{cases_lt, cases_eq}
-use Rattle.network.specs.Checks.{Check, First, Passed}
+use Rattle.std.proofs.lemmas.Bool.{cases_eq}
+use Rattle.network.specs.Checks.{Passed}
 use Rattle.network.specs.declared.register.Circuit.{Circuit}
 use Rattle.network.proofs.Circuits.{sound_told, ends_settled, figures_settled}
 use Rattle.network.proofs.Verdicts.{Settled, both, either, opposite, below, upto, stable, Verdict, verdict}

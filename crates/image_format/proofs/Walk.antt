@@ -1,5 +1,5 @@
 -- Two readings of the same bytes, record by record.
-use Rattle.std.proofs.Common.{◌≡◌, ℕ, ◌+◌, ◌⊎◌, List, [], ◌∷◌, ◌++◌, map, sym, refl, ◌∙◌, inl, inr, append_assoc}
+use Rattle.std.proofs.Common.{◌≡◌, ℕ, ◌⊎◌, List, [], ◌∷◌, ◌++◌, map, sym, refl, ◌∙◌, inl, inr, append_assoc}
 use Rattle.image_format.specs.Image.{concat}
 use Rattle.network.specs.Routes.{Each}
 

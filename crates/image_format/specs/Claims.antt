@@ -1,5 +1,5 @@
 -- What the register image promises, as statements. Assumes nothing.
-use Rattle.std.specs.Prelude.{◌≡◌, ℕ, ◌+◌, ◌<◌, ◌⊎◌, List, ◌++◌, length, drop}
+use Rattle.std.specs.Prelude.{◌≡◌, ℕ, ◌<◌, ◌⊎◌, List, ◌++◌, length, drop}
 use Rattle.network.specs.declared.register.Circuit.{Circuit}
 use Rattle.network.specs.Routes.{Each}
 use Rattle.image_format.specs.Image.{Image, Refused, Records, records_bytes}

@@ -1,9 +1,9 @@
 -- A table keeps the limits or is refused, and never both. Assumes nothing.
-use Rattle.std.proofs.Common.{◌≡◌, ℕ, zero, suc, ◌<◌, ◌≤◌, ◌⊎◌, List, [], ◌∷◌, length, sym, refl, ◌∙◌, subst, inl, inr, ⊎_elim, arith}
+use Rattle.std.proofs.Common.{◌≡◌, ℕ, zero, suc, ◌<◌, ◌≤◌, ◌⊎◌, length, sym, refl, ◌∙◌, subst, inl, inr, ⊎_elim, arith}
 use Rattle.std.proofs.lemmas.Bool.{cases_lt}
 use Rattle.network.specs.Checks.{First, Passed}
 use Rattle.network.specs.Network.{Network, Sound, Proper, circuit}
-use Rattle.network.specs.Table.{Refused, Fails, ProperNotRefused, OneTableRefusal, ProperOrRefused, count_checks, record_checks}
+use Rattle.network.specs.Table.{Fails, ProperNotRefused, OneTableRefusal, ProperOrRefused, count_checks, record_checks}
 use Rattle.network.proofs.Circuits.{good_ends, good_figures, sound_told, ends_settled, figures_settled}
 use Rattle.network.proofs.Verdicts.{one_first, passed_first, Verdict, either, below, verdict}
 

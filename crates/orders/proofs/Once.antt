@@ -1,5 +1,5 @@
 -- A line says one statement at most.
-use Rattle.std.proofs.Common.{◌≡◌, ℕ, ◌⊎◌, List, [], ◌∷◌, get_or, sym, refl, ap, ◌∙◌, subst, inl, inr, arith}
+use Rattle.std.proofs.Common.{◌≡◌, ℕ, List, [], ◌∷◌, get_or, sym, ap, ◌∙◌, subst, inl, inr, arith}
 use Rattle.promise.specs.declared.Mode.{Mode}
 use Rattle.calls.specs.declared.order.Ask.{Ask}
 use Rattle.calls.specs.declared.order.Order.TheVariants as order

@@ -1,15 +1,10 @@
 -- What the words of a line say.
-use Rattle.std.proofs.Common.{◌≡◌, ℕ, ◌<◌, ◌≤◌, true, false, cond, ◌⊎◌, List, [], ◌∷◌, length, get_or, is_err, Ok, Err, Result, sym, refl, ap, ◌∙◌, subst, inl, inr, arith, Bor}
-use Rattle.std.specs.List.{between, AllByRecursion}
+use Rattle.std.proofs.Common.{◌≡◌, ℕ, ◌<◌, true, List, [], ◌∷◌, length, get_or, is_err, Ok, Err, Result, sym, refl, ap, ◌∙◌, subst, inl, inr, arith, Bor}
+use Rattle.std.specs.List.{between}
 use Rattle.std.proofs.lemmas.Slice.{first_rest}
 use Rattle.std.proofs.lemmas.Bool.{false≢true}
-use Rattle.calls.specs.declared.order.Ask.{Ask}
-use Rattle.calls.specs.declared.order.Order.TheVariants as order
-use Rattle.promise.specs.declared.Mode.{Mode}
 use Rattle.orders.specs.declared.statement.Statement.{Statement}
-use Rattle.orders.specs.declared.statement.Statement.TheVariants as statement
 use Rattle.words.specs.declared.verbs.Verb.{Verb}
-use Rattle.words.specs.declared.verbs.Verb.TheVariants as verb
 use Rattle.words.specs.Figures.{Reads, Numeral, Place, mode_text, texts}
 use Rattle.words.specs.Verbs.{verb_text}
 use Rattle.orders.specs.Meanings.{One, Two, Asks, SaidSafest, SaidWidest, SaidBook, Said, Means}

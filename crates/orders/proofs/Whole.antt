@@ -1,5 +1,5 @@
 -- From the words that were kept to the whole line.
-use Rattle.std.proofs.Common.{◌≡◌, ℕ, ◌<◌, ◌≤◌, ◌⊎◌, List, [], ◌∷◌, ◌++◌, length, Ok, Err, Result, ap, subst, inl, inr, arith, length-append}
+use Rattle.std.proofs.Common.{ℕ, ◌≤◌, List, ◌++◌, length, Ok, Err, Result, ap, subst, inl, inr, arith, length-append}
 use Rattle.orders.specs.declared.statement.Statement.{Statement}
 use Rattle.words.specs.declared.verbs.Verb.{Verb}
 use Rattle.words.specs.declared.verbs.Verb.TheVariants.{Safest, Widest, Book, Release, Close, Reopen, Left, Open, Uses, Routes, Map}

@@ -8,7 +8,7 @@ use Rattle.orders.specs.declared.statement.Statement.{Statement}
 use Rattle.orders.specs.declared.statement.Statement.TheVariants as statement
 use Rattle.words.specs.declared.verbs.Verb.{Verb}
 use Rattle.words.specs.declared.verbs.Verb.TheVariants as verb
-use Rattle.words.specs.Figures.{Numeral, Place, mode_text, Single}
+use Rattle.words.specs.Figures.{Numeral, Place, mode_text}
 use Rattle.words.specs.Verbs.{verb_text}
 use Rattle.orders.specs.Lines.{Splits}
 

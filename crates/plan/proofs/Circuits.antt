@@ -1,11 +1,10 @@
 -- From the tables to the arcs of a search. Assumes nothing.
-use Rattle.std.proofs.Common.{◌≡◌, ℕ, ◌+◌, ◌<◌, ◌≤◌, List, length, get_or, take, set, Some, None, vec_len, Option, unwrap_or, sym, ◌∙◌, subst, arith, below_more}
+use Rattle.std.proofs.Common.{◌≡◌, ℕ, ◌+◌, ◌<◌, ◌≤◌, List, length, get_or, take, set, Some, None, vec_len, Option, unwrap_or, sym, subst, arith, below_more}
 use Rattle.std.proofs.lemmas.List.{get_or-set_same, get_or-set_other, get_or-take, length-take-le}
-use Rattle.network.specs.Network.{Network, Proper, circuit}
+use Rattle.network.specs.Network.{Network, Proper}
 use Rattle.search.specs.declared.Arc.{Arc}
 use Rattle.search.specs.Graph as graph
 use Rattle.promise.specs.declared.Mode.{Mode}
-use Rattle.promise.specs.Ledger.{left}
 use Rattle.promise.specs.Lanes.{Lanes}
 use Rattle.tables.specs.declared.rows.Tables.{Tables}
 use Rattle.tables.specs.Standing.{Keeps, ledger_of, left_at}

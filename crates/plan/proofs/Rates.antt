@@ -1,5 +1,5 @@
 -- The search for the widest rate: what is known of the rates on either side. Assumes nothing.
-use Rattle.std.proofs.Common.{◌≡◌, ℕ, suc, ◌+◌, ◌-◌, ◌/◌, ◌^◌, ◌<◌, ◌≤◌, true, false, ◌⊎◌, Some, None, Option, refl, subst, inl, inr, ⊎_elim, arith}
+use Rattle.std.proofs.Common.{◌≡◌, ℕ, suc, ◌+◌, ◌-◌, ◌/◌, ◌^◌, ◌<◌, ◌≤◌, false, ◌⊎◌, Some, None, Option, refl, subst, inl, inr, ⊎_elim, arith}
 use native.Mathlib.Nat.{two-pow-succ}
 use Rattle.std.proofs.lemmas.Bool.{both_ways}
 use Rattle.network.specs.declared.refusal.Refusal.{Refusal}
@@ -9,7 +9,7 @@ use Rattle.scale.specs.Measure.{Measure, AtMost, Lawful}
 use Rattle.promise.specs.declared.Mode.{Mode}
 use Rattle.promise.specs.Ledger.{Ledger}
 use Rattle.promise.specs.Promise.{Widest}
-use Rattle.promise.proofs.Plans.{Below, below_start, below_more, none_within_from_safest, not_no_pair, widest}
+use Rattle.promise.proofs.Plans.{Below, below_more, none_within_from_safest, not_no_pair, widest}
 use Rattle.tables.specs.Standing.{route_of}
 use Rattle.plan.specs.declared.plan.Plan.{Plan}
 use Rattle.plan.specs.Planned.{SafestPlan, Declined}

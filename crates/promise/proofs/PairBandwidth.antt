@@ -1,13 +1,13 @@
 -- A pair of routes carries just the rates up to its bandwidth. Assumes nothing.
-use Rattle.std.proofs.Common.{◌≡◌, ℕ, ◌+◌, ◌*◌, ◌/◌, ◌<◌, ◌≤◌, min, Bool, true, false, cond, ◌||◌, eqb, ◌⊎◌, List, [], ◌∷◌, ◌++◌, length, sym, refl, ap, subst, inl, inr, ⊎_elim, arith}
-use Rattle.std.proofs.lemmas.Bool.{cases_Bool, cases_lt, eqb-true, eq-eqb, or_cases, or_left, or_right, false≢true, both_ways}
+use Rattle.std.proofs.Common.{◌≡◌, ℕ, ◌*◌, ◌/◌, ◌<◌, ◌≤◌, min, Bool, true, false, eqb, ◌⊎◌, List, [], ◌∷◌, sym, refl, ap, subst, inl, inr, ⊎_elim, arith}
+use Rattle.std.proofs.lemmas.Bool.{cases_Bool, eqb-true, eq-eqb, or_cases, or_left, or_right, false≢true, both_ways}
 use Rattle.network.specs.Network.{Network}
-use Rattle.network.specs.Routes.{uses, times, Route}
+use Rattle.network.specs.Routes.{uses, times}
 use Rattle.network.proofs.Counts.{one_more, no_more}
 use Rattle.promise.specs.declared.Mode.{Mode}
 use Rattle.promise.specs.declared.Mode.TheVariants.{OnePlusOne, OneToOne}
-use Rattle.promise.specs.Ledger.{Ledger, left, Open, Usable, Rule, Carries}
-use Rattle.promise.specs.Bandwidth.{InBoth, InOne, Allows, Bandwidth, AllOpen, CarriesUpToBandwidth}
+use Rattle.promise.specs.Ledger.{Ledger, left, Rule, Carries}
+use Rattle.promise.specs.Bandwidth.{InOne, Allows, Bandwidth, AllOpen, CarriesUpToBandwidth}
 
 -- the least of a number and what a function says of each element
 least : (f : ℕ → ℕ) (x : ℕ) → List ℕ → ℕ

@@ -1,5 +1,5 @@
 -- The bandwidth of a pair, as the literature on tunable survivability defines it. Assumes nothing.
-use Rattle.std.specs.Prelude.{◌≡◌, ℕ, ◌*◌, ◌<◌, ◌≤◌, Bool, true, false, ◌⊎◌, List, [], ◌∷◌, length}
+use Rattle.std.specs.Prelude.{◌≡◌, ℕ, ◌*◌, ◌≤◌, true, false, ◌⊎◌, List, [], ◌∷◌}
 use Rattle.network.specs.Network.{Network}
 use Rattle.network.specs.Routes.{uses, Route}
 use Rattle.promise.specs.declared.Mode.{Mode}

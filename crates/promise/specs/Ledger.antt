@@ -1,5 +1,5 @@
 -- The ledger: what the accepted calls have come to. It knows the network, and is told each call and its answer alone. Assumes nothing.
-use Rattle.std.specs.Prelude.{◌≡◌, ℕ, ◌+◌, ◌-◌, ◌*◌, ◌<◌, ◌≤◌, Bool, true, false, cond, ◌||◌, List, [], ◌∷◌, ◌++◌, ◌≢◌}
+use Rattle.std.specs.Prelude.{ℕ, ◌+◌, ◌-◌, ◌*◌, ◌<◌, ◌≤◌, cond, ◌||◌, List, [], ◌∷◌, ◌≢◌}
 use Rattle.promise.specs.declared.Mode.{Mode}
 use Rattle.promise.specs.declared.Mode.TheVariants.{OnePlusOne, OneToOne}
 use Rattle.network.specs.Network.{Network, circuit}

@@ -1,5 +1,5 @@
 -- A network that never changes, and the sum that a reader takes of any network. Assumes nothing.
-use Rattle.std.specs.Prelude.{◌≡◌, ℕ, zero, suc, ◌<◌, List, [], ◌∷◌, sum_by}
+use Rattle.std.specs.Prelude.{ℕ, zero, suc, ◌<◌, [], ◌∷◌, sum_by}
 use Rattle.std.proofs.Common.{arith}
 use Rattle.network.specs.declared.register.Circuit.{Circuit}
 use Rattle.network.specs.Network.{Network, Sound, Proper, circuit}

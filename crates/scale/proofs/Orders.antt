@@ -1,11 +1,11 @@
 -- In whatever order the weights of the shared circuits are joined, they give the shared cost. Assumes nothing.
-use Rattle.std.proofs.Common.{◌≡◌, ℕ, zero, suc, ◌+◌, ◌<◌, ◌≤◌, Bool, true, false, cond, ◌&&◌, ◌||◌, eqb, List, [], ◌∷◌, length, get_or, sym, refl, ap, ◌∙◌, subst, inl, inr, arith}
+use Rattle.std.proofs.Common.{◌≡◌, ℕ, zero, suc, ◌+◌, ◌<◌, ◌≤◌, true, false, cond, ◌&&◌, ◌||◌, eqb, List, [], ◌∷◌, length, get_or, sym, refl, ap, ◌∙◌, subst, inl, inr, arith}
 use Rattle.std.proofs.lemmas.Bool.{both_ways, cases_Bool, cond-true, cond-false, eq-eqb, ne_eqb, or_left, or_right}
 use Rattle.network.specs.declared.register.Circuit.{Circuit}
 use Rattle.network.specs.Network.{Network, circuit, no_circuit, Proper}
 use Rattle.network.specs.Routes.{Each, uses, shared, Distinct}
 use Rattle.network.proofs.Lists.{each_at}
-use Rattle.scale.specs.Measure.{Measure, Lawful, joined, shared_cost}
+use Rattle.scale.specs.Measure.{Measure, Lawful, joined}
 use Rattle.scale.specs.Shared.{SharedOnce, joined_over, OrderDoesNotMatter}
 use Rattle.scale.proofs.Costs.{Low, low, join_zero, joined_value}
 

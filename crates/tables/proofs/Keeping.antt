@@ -1,8 +1,7 @@
 -- What is added and struck out leaves the tables those of a book over the same network. Assumes nothing.
-use Rattle.std.proofs.Common.{◌≡◌, ℕ, zero, suc, ◌+◌, ◌-◌, ◌<◌, ◌≤◌, List, [], ◌∷◌, ◌++◌, map, length, get_or, take, drop, vec_items, vec_len, sym, refl, ap, ◌∙◌, subst, arith}
+use Rattle.std.proofs.Common.{◌≡◌, ℕ, zero, suc, ◌+◌, ◌-◌, ◌<◌, ◌≤◌, List, [], ◌∷◌, ◌++◌, map, length, get_or, vec_items, vec_len, sym, refl, ap, ◌∙◌, subst, arith}
 use Rattle.std.specs.List.{remove}
-use Rattle.std.proofs.lemmas.List.{length-map, map-append, take-map, drop-map}
-use Rattle.network.specs.Network.{Network, Proper, circuit}
+use Rattle.network.specs.Network.{Network, Proper}
 use Rattle.promise.specs.Ledger as ledger
 use Rattle.promise.specs.Ledger.{Ledger, taken}
 use Rattle.promise.specs.Promise.{Stands, feed_number, notice_number}

@@ -1,5 +1,5 @@
 -- What the tables stand for: a ledger, and the bandwidth left on each circuit. Assumes nothing.
-use Rattle.std.specs.Prelude.{◌≡◌, ℕ, ◌+◌, ◌<◌, ◌≤◌, ◌⊎◌, List, [], ◌∷◌, map, length, get_or, take, vec_items, vec_len, slice_index_or}
+use Rattle.std.specs.Prelude.{◌≡◌, ℕ, ◌+◌, ◌<◌, List, [], ◌∷◌, map, length, get_or, take, vec_items, vec_len, slice_index_or}
 use Rattle.std.specs.Vec.{with_item}
 use Rattle.network.specs.Network.{Network, circuit}
 use Rattle.promise.specs.declared.Mode.TheVariants.{OnePlusOne}

@@ -1,5 +1,5 @@
 -- What is found, and what is not.
-use Rattle.std.proofs.Common.{◌≡◌, ℕ, ◌⊎◌, List, Some, None, Ok, Err, Option, Result, inl, inr, arith}
+use Rattle.std.proofs.Common.{◌≡◌, ℕ, List, Some, None, Ok, Err, Option, Result, inl, inr, arith}
 use Rattle.std.specs.List.{AllByRecursion}
 use Rattle.words.specs.Figures.{Reads, Found, Digit, Numeral, Place}
 

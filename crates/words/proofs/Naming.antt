@@ -1,8 +1,8 @@
 -- The first place of a name.
-use Rattle.std.proofs.Common.{◌≡◌, ℕ, ◌^◌, ◌<◌, ◌≤◌, ◌⊎◌, List, [], length, get_or, sym, ◌∙◌, inl, inr, arith, Bor}
+use Rattle.std.proofs.Common.{◌≡◌, ℕ, ◌<◌, ◌⊎◌, List, [], length, get_or, inl, inr, Bor}
 use Rattle.std.proofs.lemmas.List.{get_or-map, length-map}
 use Rattle.std.proofs.lemmas.Bool.{cases_order}
-use Rattle.words.specs.Figures.{Digit, Numeral, Named, Place, Single, texts}
+use Rattle.words.specs.Figures.{Named, Place, Single, texts}
 use Rattle.words.specs.Decimals.{numeral_single}
 
 pub text_at : (xs : List (Bor (List ℕ))) (i : ℕ) (d : Bor (List ℕ)) → i < length xs → get_or (texts xs) i [] ≡ (get_or xs i d).now

@@ -1,4 +1,3 @@
-use Rattle.std.proofs.Common.{arith}
 use Rattle.orders.proofs.Splitting.{next_is}
 use Rattle.orders.proofs.reading.next_word.Goals as goal
 

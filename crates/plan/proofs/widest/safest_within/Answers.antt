@@ -1,4 +1,4 @@
-use Rattle.std.proofs.Common.{false, sym, ap, ◌∙◌, subst}
+use Rattle.std.proofs.Common.{sym, ap, ◌∙◌}
 use Rattle.plan.proofs.Rates.{beyond}
 use Rattle.plan.proofs.widest.safest_within.Goals as goal
 

@@ -1,4 +1,4 @@
-use Rattle.std.proofs.Common.{◌≡◌, ◌+◌, ◌-◌, ◌^◌, ◌<◌, ◌≤◌, subst, inr, arith}
+use Rattle.std.proofs.Common.{◌≡◌, ◌+◌, ◌-◌, ◌^◌, ◌<◌, ◌≤◌, subst, arith}
 use Rattle.plan.proofs.Rates.{width_up, width_down, raised, lowered, widest_had, none_had}
 use Rattle.plan.proofs.widest.widest_within.Given.{Over}
 use Rattle.plan.proofs.widest.widest_within.Goals as goal

@@ -1,4 +1,4 @@
-use Rattle.std.proofs.Common.{◌≡◌, ℕ, ◌+◌, ◌<◌, List, [], ◌∷◌, ◌++◌, length, get_or, take, sym, subst, arith, rules}
+use Rattle.std.proofs.Common.{◌≡◌, ◌+◌, ◌<◌, [], ◌∷◌, ◌++◌, length, get_or, take, sym, subst, rules}
 use Rattle.std.proofs.lemmas.List.{take_more}
 use Rattle.tables.proofs.Marking.{Marked, marked_none, marked_more, marked_past}
 use Rattle.tables.proofs.tables.marks.Goals as goal

@@ -1,7 +1,7 @@
-use Rattle.std.proofs.Common.{◌≡◌, ℕ, ◌<◌, ◌≤◌, List, [], ◌∷◌, ◌++◌, length, sym, refl, ap, ◌∙◌, inl, inr, arith}
+use Rattle.std.proofs.Common.{ℕ, ◌<◌, ◌≤◌, length, refl, inr, arith}
 use Rattle.std.proofs.lemmas.Bool.Decides.{not_from_Decides}
 use Rattle.std.proofs.lemmas.Result.{err_from_is_err_and}
-use Rattle.promise.specs.Ledger.{left, takes}
+use Rattle.promise.specs.Ledger.{takes}
 use Rattle.promise.specs.Promise.{book}
 use Rattle.promise.proofs.Plans.{not_no_pair, not_none_within}
 use Rattle.tables.specs.Standing.{ledger_of, route_of, left_at}

@@ -1,4 +1,4 @@
-use Rattle.std.proofs.Common.{◌≡◌, ◌≤◌, length, vec_items, vec_len, refl, arith, rules}
+use Rattle.std.proofs.Common.{◌≡◌, length, vec_items, vec_len, arith, rules}
 use Rattle.std.proofs.lemmas.Bool.{leb-true, le-leb}
 use Rattle.std.proofs.lemmas.List.{length-map}
 use Rattle.tables.specs.Standing.{ledger_of, feed_of}

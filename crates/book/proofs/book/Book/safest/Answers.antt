@@ -1,8 +1,7 @@
-use Rattle.std.proofs.Common.{◌≡◌, [], ◌∷◌, refl, arith}
+use Rattle.std.proofs.Common.{[], ◌∷◌, refl}
 use Rattle.std.proofs.lemmas.Bool.Decides.{not_from_Decides}
 use Rattle.promise.specs.Promise.{safest}
 use Rattle.tables.specs.Standing.{ledger_of, route_of}
-use Rattle.promise.proofs.Plans.{not_no_pair}
 use Rattle.book.proofs.Planning.{planned_same}
 use Rattle.book.proofs.book.Book.safest.Goals as goal
 

@@ -1,6 +1,5 @@
-use Rattle.std.proofs.Common.{◌≡◌, ℕ, ◌+◌, ◌<◌, Bool, true, false, List, [], ◌∷◌, ◌++◌, length, get_or, take, sym, ap, ◌∙◌, subst}
+use Rattle.std.proofs.Common.{◌≡◌, ◌+◌, [], ◌∷◌, ◌++◌, get_or, take, sym, ap, ◌∙◌, subst}
 use Rattle.std.proofs.lemmas.List.{take_all, map_more}
-use Rattle.network.specs.Routes.{uses}
 use Rattle.tables.specs.declared.rows.Notice.{Notice}
 use Rattle.tables.proofs.Marking.{Marked, marked_none, marked_more, marked_past}
 use Rattle.tables.proofs.Opening.{named, unnamed_from_unused, used_not_unnamed}

@@ -1,6 +1,5 @@
 use Rattle.std.proofs.Common.{◌≡◌, [], ◌∷◌, ◌++◌, map, vec_items, sym, refl, ap, ◌∙◌, subst}
 use Rattle.std.proofs.lemmas.List.{map_push}
-use Rattle.promise.specs.Ledger.{Ledger}
 use Rattle.promise.specs.Promise.{notice_number}
 use Rattle.tables.specs.Standing.{Apart, notice_of, ledger_of}
 use Rattle.tables.proofs.Keeping.{keeps_notices}

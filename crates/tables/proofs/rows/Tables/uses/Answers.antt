@@ -1,4 +1,4 @@
-use Rattle.std.proofs.Common.{◌≡◌, ℕ, ◌+◌, Bool, true, false, cond, [], ◌∷◌, sym, refl, ap, ◌∙◌}
+use Rattle.std.proofs.Common.{◌≡◌, ◌+◌, Bool, true, false, cond, [], ◌∷◌, sym, refl, ap, ◌∙◌}
 use mir.Val.{bool_byte}
 use Rattle.network.specs.Routes.{uses, times}
 use Rattle.promise.specs.Ledger as ledger

@@ -1,4 +1,4 @@
-use Rattle.std.proofs.Common.{◌+◌, length, sym, subst}
+use Rattle.std.proofs.Common.{length, sym, subst}
 use Rattle.words.specs.Figures.{Numeral, TallyLimit}
 use Rattle.words.proofs.Founding.{found_nothing}
 use Rattle.words.specs.Tallies.{tally_colon, tally_parts, tally_made, front_cut, back_cut}
