@@ -1,8 +1,8 @@
 /*
  * The route book for the automation host: two routes for a feed that share as little as the network allows.
  *
- * Link with libhost.a (rt staticlib host) and with lib/librattle_c.a of the Rattle kit. docs/HOST.md, docs/IMAGE.md
- * and docs/REFUSALS.md have the whole account.
+ * Link with libhost.a (tools/build host) and with the Rattle kit's C support (tools/build c-support prints its path).
+ * docs/HOST.md, docs/IMAGE.md and docs/REFUSALS.md have the whole account.
  */
 #ifndef ROUTE_BOOK_H
 #define ROUTE_BOOK_H
