@@ -1,4 +1,4 @@
-// The one function that C calls.
+// The one function that C calls, by way of the crate host_c.
 ghost use Rattle.std.specs.Prelude.{◌≡◌, Some, None};
 ghost use Rattle.host.specs.Entry.{Means, UnknownMode, Outcome};
 
@@ -24,10 +24,8 @@ fn mode_of(number: u32) -> Option<Mode>
     }
 }
 
-// Loads the image, asks a new book over it for the safest pair, and writes the pair to the output: 0, or why not. A
-// `Global` takes no bytes, so C passes nothing for it.
-#[unsafe(no_mangle)]
-pub extern "C" fn route_book_safest(
+// Loads the image, asks a new book over it for the safest pair, and writes the pair to the output: 0, or why not.
+pub fn route_book_safest(
     heap: Global,
     image: &[u8],
     output: &mut [u8],
