@@ -7,12 +7,12 @@ use Rattle.search.proofs.spread.gather.Goals.{In-loop-seen}
 pub loop-seen-init : goal.loop-seen-init
 loop-seen-init c =
     let s = c.new-seen.ensures in
-    begun_new _ _ _ _ _ c.requires.to s.count s.rank s.via s.order
+    begun_new _ _ _ _ _ c.args.ends.to_in s.count s.rank s.via s.order
 
 -- something is carried, so there is a place to go on from
 left : (c : In-loop-seen) → c.loop-seen.done < c.loop-seen.seen.count
 left c =
-    let long : length c.args.arcs.now ≤ length c.args.flow.now = omega (arith, c.requires.proper.few_arcs, c.requires.flow) in
+    let long : length c.args.graph.now.arcs.now ≤ length c.args.flow.now = omega (arith, c.args.graph.now.proper.few_arcs, c.told-flow) in
     to_do _ _ c.requires.carries.0 _ _ _ _ long c.requires.carries.1 c.loop-seen.invariant c.loop-seen-test.true
 
 pub bounds-seen-done : goal.bounds-seen-done
@@ -21,7 +21,7 @@ bounds-seen-done c = omega (arith, left c, c.loop-seen.invariant.roll.counted)
 pub go_back-requires : goal.go_back-requires
 go_back-requires c =
     let r = on_roll _ _ c.loop-seen.invariant.roll (left (goal.at.go_back-requires c).In-loop-seen) in
-    record { proper = c.requires.proper; into = c.requires.into; flow = c.requires.flow; roll = c.loop-seen.invariant.roll; place = r.1; seen = r.0 }
+    record { roll = c.loop-seen.invariant.roll; place = r.1; seen = r.0 }
 
 pub loop-seen-smaller : goal.loop-seen-smaller
 loop-seen-smaller c = omega (arith, left (goal.at.loop-seen-smaller c).In-loop-seen, c.loop-seen.invariant.roll.counted)
