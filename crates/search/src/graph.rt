@@ -38,7 +38,7 @@ pub(crate) struct Chains {
 }
 
 impl Chains {
-    fn new(arcs: &[Arc], by: By) -> Chains
+    pub(crate) fn new(arcs: &[Arc], by: By) -> Chains
         requires { Proper arcs.now 128 }
         ensures by { result.by ≡ by }
         ensures linked { Linked arcs.now (end_by by) 0 result.first result.next }
@@ -54,30 +54,28 @@ impl Chains {
     }
 }
 
-// The arcs that were lent, and their chains.
-#[derive(Drop)]
+// The arcs and their chains. All of it is lent: a struct that held the chains would be moved and cleared as a whole.
+#[derive(Clone, Copy)]
 pub(crate) struct Graph<'a> {
     pub(crate) arcs: &'a [Arc],
-    out: Chains,
-    into: Chains,
+    out: &'a Chains,
+    into: &'a Chains,
     ghost proper: { Proper arcs.now 128 },
-    ghost indexed: { Indexed arcs.now out into },
-    ghost by_start: { out.by ≡ Start },
-    ghost by_end: { into.by ≡ End },
+    ghost indexed: { Indexed arcs.now out.now into.now },
+    ghost by_start: { out.now.by ≡ Start },
+    ghost by_end: { into.now.by ≡ End },
 }
 
 impl<'a> Graph<'a> {
     ghost use Rattle.search.specs.Remaining.{arcs_left};
 
-    pub(crate) fn new(arcs: &'a [Arc]) -> Graph<'a>
-        requires { Proper arcs.now 128 }
+    pub(crate) fn new(arcs: &'a [Arc], out: &'a Chains, into: &'a Chains) -> Graph<'a>
+        requires proper { Proper arcs.now 128 }
+        requires indexed { Indexed arcs.now out.now into.now }
+        requires by { (out.now.by ≡ Start) × (into.now.by ≡ End) }
         ensures { result.arcs.now ≡ arcs.now }
     {
-        Graph {
-            arcs,
-            out: Chains::new(arcs, By::Start),
-            into: Chains::new(arcs, By::End),
-        }
+        Graph { arcs, out, into }
     }
 
     // The arcs that start at a place.
@@ -87,7 +85,7 @@ impl<'a> Graph<'a> {
     {
         ArcsAt {
             arcs: self.arcs,
-            chains: &self.out,
+            chains: self.out,
             place,
             at: self.out.first[place] as usize,
         }
@@ -100,7 +98,7 @@ impl<'a> Graph<'a> {
     {
         ArcsAt {
             arcs: self.arcs,
-            chains: &self.into,
+            chains: self.into,
             place,
             at: self.into.first[place] as usize,
         }

@@ -7,5 +7,5 @@ use Rattle.search.proofs.graph.Graph.leaving.Goals as goal
 pub returns : goal.returns
 returns c =
     let s = c.args.self.now in
-    let at = get_or s.out.first c.args.place 0 in
+    let at = get_or s.out.now.first c.args.place 0 in
     ap (λ by. arcs_at s.arcs.now by c.args.place at) s.by_start ∙ sym (arcs_from s.arcs.now Start c.args.place 0 at (s.indexed.out.starts c.args.place c.requires))
