@@ -7,7 +7,7 @@ use Rattle.search.specs.declared.graph.By.TheVariants.{Start, End}
 use Rattle.search.specs.Graph.{arc}
 use Rattle.search.specs.Links.{end_by, arcs_at}
 use Rattle.search.specs.Trees.{Never}
-use Rattle.search.specs.Rolls.{IsSeen, Roll, Noted, More, Unused}
+use Rattle.search.specs.Rolls.{IsSeen, Noted, More, Unused}
 use Rattle.search.proofs.Chained.{IsAt, Walked, walked_none, walked_at, walked_more, walked_all}
 use Rattle.search.proofs.Rolled.{more_none, more_more, more_forth, more_back, stays}
 
@@ -17,8 +17,8 @@ pub record SpreadTo (g : List Arc) (f : List ℕ) (F : ℕ → Type 0) (by : By)
   pub walked : Walked g by p (λ d. Goes d → IsSeen s (far (arc g d))) left
 
 module _ (g : List Arc) (f : List ℕ) (F : ℕ → Type 0) (by : By) (far : Arc → ℕ) (Goes : ℕ → Type 0) (s0 : Seen) (p : ℕ) where
-  pub spread_none : (left : List (ℕ × Arc)) → left ≡ arcs_at g by p 0 → Roll s0 → SpreadTo g f F by far Goes s0 s0 p left
-  spread_none left e roll = record { more = more_none g f F s0 roll; walked = walked_none g by p _ left e }
+  pub spread_none : (left : List (ℕ × Arc)) → left ≡ arcs_at g by p 0 → SpreadTo g f F by far Goes s0 s0 p left
+  spread_none left e = record { more = more_none g f F s0; walked = walked_none g by p _ left e }
 
   module _ (left next : List (ℕ × Arc)) (x : ℕ × Arc) (e : left ≡ x ∷ next) (s : Seen) (old : SpreadTo g f F by far Goes s0 s p left) where
     pub spread_at : IsAt g by p x
@@ -42,14 +42,14 @@ module _ (g : List Arc) (f : List ℕ) (F : ℕ → Type 0) (by : By) (far : Arc
   spread_all s left e old = walked_all g by p _ left e old.walked
 
 -- from s to t a place was seen by an arc x at p
-module _ (g : List Arc) (f : List ℕ) (s t : Seen) (p : ℕ) (x : ℕ × Arc) (roll : Roll s) (seen : IsSeen s p) where
+module _ (g : List Arc) (f : List ℕ) (s t : Seen) (p : ℕ) (x : ℕ × Arc) (seen : IsSeen s p) where
   pub by_forth : IsAt g Start p x → Unused g f x.0 → Noted s t x.1.to x.0 → More g f (Unused g f) s t
   by_forth at u noted =
-      more_forth g f (Unused g f) s t x.1.to x.0 roll noted at.is (ap (λ a. a.to) (sym at.same)) u (subst (IsSeen s) (sym at.on ∙ ap (λ a. a.from) at.same) seen)
+      more_forth g f (Unused g f) s t x.1.to x.0 noted at.is (ap (λ a. a.to) (sym at.same)) u (subst (IsSeen s) (sym at.on ∙ ap (λ a. a.from) at.same) seen)
 
   pub by_back : IsAt g End p x → 0 < get_or f x.0 0 → Noted s t x.1.from x.0 → More g f Never s t
   by_back at u noted =
-      more_back g f Never s t x.1.from x.0 roll noted at.is (ap (λ a. a.from) (sym at.same)) u (subst (IsSeen s) (sym at.on ∙ ap (λ a. a.to) at.same) seen)
+      more_back g f Never s t x.1.from x.0 noted at.is (ap (λ a. a.from) (sym at.same)) u (subst (IsSeen s) (sym at.on ∙ ap (λ a. a.to) at.same) seen)
 
 pub unused : (g : List Arc) (f : List ℕ) (by : By) (p : ℕ) (x : ℕ × Arc) → IsAt g by p x → 0 < x.1.lanes → get_or f x.0 0 ≡ 0 → Unused g f x.0
 unused g f by p x at h z = record { usable = omega (arith, h, ap (λ a. a.lanes) at.same); idle = z }

@@ -1,9 +1,8 @@
 // The places that a search has seen, and how it spreads from them.
-ghost use Rattle.std.specs.Prelude.{◌≡◌, ℕ, ◌+◌, ◌<◌, ◌≤◌, length, replicate, MatchOption, slice_set};
+ghost use Rattle.std.specs.Prelude.{◌≡◌, ℕ, ◌+◌, ◌<◌, ◌≤◌, MatchOption};
 ghost use Rattle.search.specs.Graph.{Refused};
 ghost use Rattle.search.specs.Flows.{Carries, Sound};
-ghost use Rattle.search.specs.Trees.{Free, Never, Reached};
-ghost use Rattle.search.specs.Rolls.{IsSeen, Roll, Noted, More, Unused, SpentForth, SpentBack, Passed, Leaves, OfFirst};
+ghost use Rattle.search.specs.Trees.{Free, Never, Reached, Roll};
 
 use crate::graph::Graph;
 use crate::{Ends, MAX_ARCS, MAX_PLACES};
@@ -19,15 +18,17 @@ pub(crate) struct Seen {
     pub(crate) rank: [u8; MAX_PLACES],
     pub(crate) via: [u16; MAX_PLACES],
     pub(crate) order: [u8; MAX_PLACES],
+    ghost roll: { Roll count rank via order },
 }
 
 impl Seen {
+    ghost use Rattle.search.specs.Rolls.{IsSeen, Noted, More, Unused, SpentForth, SpentBack, Passed, Leaves, OfFirst};
+
     fn new(root: usize) -> Seen
         requires { root < 128 }
         ensures count { result.count ≡ 1 }
-        ensures rank { result.rank ≡ slice_set (replicate 128 0) root 1 }
-        ensures via { result.via ≡ replicate 128 0 }
-        ensures order { result.order ≡ slice_set (replicate 128 0) 0 root }
+        ensures root { IsSeen result root }
+        ensures only { (p : ℕ) → IsSeen result p → p ≡ root }
     {
         let mut rank = [0; MAX_PLACES];
         let mut order = [0; MAX_PLACES];
@@ -45,7 +46,6 @@ impl Seen {
     fn see(&mut self, place: usize, c: usize)
         requires place { place < 128 }
         requires arc { c < 384 }
-        requires roll { Roll self.old }
         ensures { Noted self.old self.new place c }
     {
         if self.rank[place] == 0 {
@@ -58,9 +58,7 @@ impl Seen {
 
     // Sees the places to which usable arcs that carry nothing lead from a seen place.
     fn go_forth(&mut self, graph: &Graph<'_>, flow: &[u8; MAX_ARCS], place: usize)
-        requires roll { Roll self.old }
-        requires place { place < 128 }
-        requires seen { IsSeen self.old place }
+        requires { IsSeen self.old place }
         ensures more { More graph.now.arcs.now flow.now (Unused graph.now.arcs.now flow.now) self.old self.new }
         ensures spent { SpentForth graph.now.arcs.now flow.now self.new place }
     {
@@ -73,9 +71,7 @@ impl Seen {
 
     // Sees the places from which arcs bring something to a seen place.
     fn go_back(&mut self, graph: &Graph<'_>, flow: &[u8; MAX_ARCS], place: usize)
-        requires roll { Roll self.old }
-        requires place { place < 128 }
-        requires seen { IsSeen self.old place }
+        requires { IsSeen self.old place }
         ensures more { More graph.now.arcs.now flow.now Never self.old self.new }
         ensures spent { SpentBack graph.now.arcs.now flow.now self.new place }
     {
@@ -88,9 +84,7 @@ impl Seen {
 
     // Sees all that can be reached from one place by an arc that carries nothing, or back by one that carries something.
     fn scan(&mut self, graph: &Graph<'_>, flow: &[u8; MAX_ARCS], place: usize)
-        requires roll { Roll self.old }
-        requires place { place < 128 }
-        requires seen { IsSeen self.old place }
+        requires { IsSeen self.old place }
         ensures more { More graph.now.arcs.now flow.now (Unused graph.now.arcs.now flow.now) self.old self.new }
         ensures forth { SpentForth graph.now.arcs.now flow.now self.new place }
         ensures back { SpentBack graph.now.arcs.now flow.now self.new place }
@@ -101,8 +95,7 @@ impl Seen {
 
     // The first usable arc from a seen place to one that is not seen.
     fn leaving_arc(&self, graph: &Graph<'_>, place: usize) -> Option<usize>
-        requires place { place < 128 }
-        requires seen { IsSeen self.now place }
+        requires { IsSeen self.now place }
         ensures { MatchOption result (Passed graph.now.arcs.now self.now place) (λ c. Leaves graph.now.arcs.now self.now c) }
     {
         for (c, arc) in graph.leaving(place) {
@@ -115,7 +108,6 @@ impl Seen {
 
     // The first usable arc to a place that is not seen, and where in `order` it starts, from `held` on.
     fn gate(&self, graph: &Graph<'_>, held: usize) -> Option<(usize, usize)>
-        requires roll { Roll self.now }
         requires passed { OfFirst held self.now (Passed graph.now.arcs.now self.now) }
         ensures { MatchOption result ((c : ℕ) → Leaves graph.now.arcs.now self.now c → ⊥) (λ x. (x.0 < self.now.count) × (OfFirst x.0 self.now (Passed graph.now.arcs.now self.now)) × (Leaves graph.now.arcs.now self.now x.1)) }
     {

@@ -6,7 +6,7 @@ use Rattle.search.proofs.spread.explore.Goals as goal
 pub loop-seen-init : goal.loop-seen-init
 loop-seen-init c =
     let s = c.new-seen.ensures in
-    explored_new _ _ _ _ _ c.args.ends.from_in s.count s.rank s.via s.order
+    explored_new _ _ _ _ _ s.count s.root s.only
 
 pub loop-seen-preserved-then-done-seen : goal.loop-seen-preserved-then-done-seen
 loop-seen-preserved-then-done-seen c =

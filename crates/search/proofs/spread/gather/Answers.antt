@@ -7,7 +7,7 @@ use Rattle.search.proofs.spread.gather.Goals.{In-loop-seen}
 pub loop-seen-init : goal.loop-seen-init
 loop-seen-init c =
     let s = c.new-seen.ensures in
-    begun_new _ _ _ _ _ c.args.ends.to_in s.count s.rank s.via s.order
+    begun_new _ _ _ _ _ s.count s.root s.only
 
 -- something is carried, so there is a place to go on from
 left : (c : In-loop-seen) → c.loop-seen.done < c.loop-seen.seen.count
@@ -16,15 +16,13 @@ left c =
     to_do _ _ c.requires.carries.0 _ _ _ _ long c.requires.carries.1 c.loop-seen.invariant c.loop-seen-test.true
 
 pub bounds-seen-done : goal.bounds-seen-done
-bounds-seen-done c = omega (arith, left c, c.loop-seen.invariant.roll.counted)
+bounds-seen-done c = omega (arith, left c, c.loop-seen.seen.roll.counted)
 
 pub go_back-requires : goal.go_back-requires
-go_back-requires c =
-    let r = on_roll _ _ c.loop-seen.invariant.roll (left (goal.at.go_back-requires c).In-loop-seen) in
-    record { roll = c.loop-seen.invariant.roll; place = r.1; seen = r.0 }
+go_back-requires c = on_roll c.loop-seen.seen _ (left (goal.at.go_back-requires c).In-loop-seen)
 
 pub loop-seen-smaller : goal.loop-seen-smaller
-loop-seen-smaller c = omega (arith, left (goal.at.loop-seen-smaller c).In-loop-seen, c.loop-seen.invariant.roll.counted)
+loop-seen-smaller c = omega (arith, left (goal.at.loop-seen-smaller c).In-loop-seen, c.loop-seen.seen.roll.counted)
 
 pub loop-seen-preserved : goal.loop-seen-preserved
 loop-seen-preserved c =
