@@ -108,12 +108,13 @@ impl Seen {
 
     // The first usable arc to a place that is not seen, and where in `order` it starts, from `held` on.
     fn gate(&self, graph: &Graph<'_>, held: usize) -> Option<(usize, usize)>
+        requires held { held ≤ self.now.count }
         requires passed { OfFirst held self.now (Passed graph.now.arcs.now self.now) }
         ensures { MatchOption result ((c : ℕ) → Leaves graph.now.arcs.now self.now c → ⊥) (λ x. (x.0 < self.now.count) × (OfFirst x.0 self.now (Passed graph.now.arcs.now self.now)) × (Leaves graph.now.arcs.now self.now x.1)) }
     {
-        for i in held..self.count {
-            if let Some(c) = self.leaving_arc(graph, self.order[i] as usize) {
-                return Some((i, c));
+        for (i, place) in self.order[held..self.count].iter().enumerate() {
+            if let Some(c) = self.leaving_arc(graph, *place as usize) {
+                return Some((held + i, c));
             }
         }
         None
