@@ -1,7 +1,7 @@
 -- The chains of the arcs: how they are made, and a walk along one. Assumes nothing.
 use Rattle.std.proofs.Common.{◌≡◌, ℕ, zero, suc, ◌+◌, ◌-◌, ◌==◌, ◌<◌, ◌≤◌, ◌⊎◌, List, [], ◌∷◌, ◌++◌, length, drop, get_or, set, replicate, sym, refl, ap, ◌∙◌, subst, inl, inr, ⊎_elim, arith, length-set}
 use Rattle.std.proofs.Math.Seq.{drop-cons, get_or-append_seam}
-use Rattle.std.specs.List.{filter, enumerate_from}
+use Rattle.std.specs.List.{All, filter, enumerate_from}
 use Rattle.std.proofs.lemmas.List.{get_or-set_same, get_or-set_other, get_or-replicate, length-replicate, length-append, drop_all}
 use Rattle.std.proofs.lemmas.Bool.{cases_eq, cases_lt, eq-eqb, ne_eqb, cond-true, cond-false}
 use Rattle.search.specs.declared.Arc.{Arc}
@@ -172,6 +172,28 @@ module _ (g : List Arc) (by : By) (p : ℕ) where
       (λ (here : fits c ≡ p). subst (Among d) (sym (arcs_here c (omega arith) here)) (inr rest))
       (λ (ne : fits c ≡ p → ⊥). subst (Among d) (sym (arcs_other c (omega arith) ne)) rest)
       (cases_eq (fits c) p)
+
+  among_within : (P : ℕ × Arc → Type 0) (xs : List (ℕ × Arc)) (d : ℕ) → AllAt g by p xs → All P xs → Among d xs → P (d, arc g d)
+  among_within P [] d at all m = absurd m
+  among_within P (x ∷ xs) d at all m =
+      ⊎_elim
+      (λ (e : d ≡ x.0). subst (λ i. P (i, arc g i)) (sym e) (subst (λ a. P (x.0, a)) at.0.same (all 0 x (omega arith))))
+      (λ m. among_within P xs d at.1 (λ k y l. all (suc k) y (omega arith)) m)
+      m
+
+  -- what holds of each arc with its number
+  pub each_at : (P : ℕ × Arc → Type 0) → All P (arcs_at g by p 0) → (d : ℕ) → d < length g → fits d ≡ p → P (d, arc g d)
+  each_at P all d l at =
+      among_within P (arcs_at g by p 0) d (all_at (length g) 0 (omega arith)) all (each_among d 0 d (omega arith) l at)
+
+  at_index : (xs : List (ℕ × Arc)) (i : ℕ) (x : ℕ × Arc) → AllAt g by p xs → i < length xs → IsAt g by p (get_or xs i x)
+  at_index [] i x at l = absurd (omega arith)
+  at_index (y ∷ xs) zero x at l = at.0
+  at_index (y ∷ xs) (suc i) x at l = at_index xs i x at.1 (omega arith)
+
+  -- what stands in the list is one of the arcs
+  pub found_at : (i : ℕ) (x : ℕ × Arc) → i < length (arcs_at g by p 0) → get_or (arcs_at g by p 0) i x ≡ x → IsAt g by p x
+  found_at i x l e = subst (IsAt g by p) e (at_index (arcs_at g by p 0) i x (all_at (length g) 0 (omega arith)) l)
 
   module _ (P : ℕ → Type 0) where
     pub walked_none : (left : List (ℕ × Arc)) → left ≡ arcs_at g by p 0 → Walked g by p P left

@@ -1,5 +1,5 @@
 // The places that a search has seen, and how it spreads from them.
-ghost use Rattle.std.specs.Prelude.{◌≡◌, ℕ, ◌+◌, ◌<◌, ◌≤◌, MatchOption};
+ghost use Rattle.std.specs.Prelude.{◌≡◌, ℕ, ◌+◌, ◌<◌, ◌≤◌, MatchOption, nat_lt, slice_index};
 ghost use Rattle.search.specs.Graph.{Refused};
 ghost use Rattle.search.specs.Flows.{Carries, Sound};
 ghost use Rattle.search.specs.Trees.{Free, Never, Reached, Roll};
@@ -40,6 +40,13 @@ impl Seen {
             via: [0; MAX_PLACES],
             order,
         }
+    }
+
+    // Whether a place was seen.
+    fn has(&self, place: usize) -> bool
+        ensures { result ≡ nat_lt 0 (slice_index self.now.rank place) }
+    {
+        self.rank.get(place).is_some_and(|rank| *rank > 0)
     }
 
     // Notes a place as seen by an arc, unless it was seen before.
@@ -98,12 +105,10 @@ impl Seen {
         requires { IsSeen self.now place }
         ensures { MatchOption result (Passed graph.now.arcs.now self.now place) (λ c. Leaves graph.now.arcs.now self.now c) }
     {
-        for (c, arc) in graph.leaving(place) {
-            if arc.lanes > 0 && self.rank[arc.to as usize] == 0 {
-                return Some(c);
-            }
-        }
-        None
+        let (c, _) = graph
+            .leaving(place)
+            .find(|(_, arc)| arc.lanes > 0 && !self.has(arc.to as usize))?;
+        Some(c)
     }
 
     // The first usable arc to a place that is not seen, and where in `order` it starts, from `held` on.
