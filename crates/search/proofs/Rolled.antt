@@ -1,7 +1,7 @@
 -- The roll of the places that are seen, one place more. Assumes nothing.
-use Rattle.std.proofs.Common.{◌≡◌, ℕ, zero, suc, ◌+◌, ◌-◌, ◌<◌, ◌≤◌, ◌⊎◌, List, [], ◌∷◌, length, get_or, set, replicate, sym, refl, ap, ◌∙◌, subst, inl, inr, ⊎_elim, arith, length-set}
+use Rattle.std.proofs.Common.{◌≡◌, false, ltb, ℕ, zero, suc, ◌+◌, ◌-◌, ◌<◌, ◌≤◌, ◌⊎◌, List, [], ◌∷◌, length, get_or, set, replicate, sym, refl, ap, ◌∙◌, subst, inl, inr, ⊎_elim, arith, length-set}
 use Rattle.std.proofs.lemmas.List.{get_or-set_same, get_or-set_other, length-replicate}
-use Rattle.std.proofs.lemmas.Bool.{cases_eq, cases_lt}
+use Rattle.std.proofs.lemmas.Bool.{cases_eq, cases_lt, ltb-false}
 use Rattle.search.specs.declared.Arc.{Arc}
 use Rattle.search.specs.declared.spread.Seen.{Seen}
 use Rattle.search.specs.Graph.{arc}
@@ -92,6 +92,10 @@ tree_new s root one seen only g f F = record {
   few = λ p. omega (arith, s.roll.below p, one);
   long = s.roll.rank_long;
 }
+
+-- what `has` says of a place that is not seen
+pub unseen : (rank : ℕ) → false ≡ ltb 0 rank → rank ≡ 0
+unseen rank denied = omega (arith, ltb-false 0 rank (sym denied))
 
 -- a place that is not seen can be put on the roll
 module _ (s : Seen) (p : ℕ) (new : get_or s.rank p 0 ≡ 0) (place : p < 128) where

@@ -55,7 +55,7 @@ impl Seen {
         requires arc { c < 384 }
         ensures { Noted self.old self.new place c }
     {
-        if self.rank[place] == 0 {
+        if !self.has(place) {
             self.order[self.count] = place as u8;
             self.count += 1;
             self.rank[place] = self.count as u8;
@@ -136,7 +136,7 @@ pub(crate) fn explore(graph: &Graph<'_>, flow: &[u8; MAX_ARCS], ends: Ends) -> O
     // Of the places in `order`, how many were scanned, and how many have no gate any more.
     let mut done = 0;
     let mut held = 0;
-    while seen.rank[ends.to] == 0 {
+    while !seen.has(ends.to) {
         if done < seen.count {
             let place = seen.order[done] as usize;
             seen.scan(graph, flow, place);
@@ -161,7 +161,7 @@ pub(crate) fn gather(graph: &Graph<'_>, flow: &[u8; MAX_ARCS], ends: Ends) -> Se
 {
     let mut seen = Seen::new(ends.to);
     let mut done = 0;
-    while seen.rank[ends.from] == 0 {
+    while !seen.has(ends.from) {
         let place = seen.order[done] as usize;
         seen.go_back(graph, flow, place);
         done += 1;

@@ -1,17 +1,13 @@
 use Rattle.std.proofs.Common.{◌≤◌, length, inr, arith}
 use Rattle.search.specs.Graph.{Refused}
-use Rattle.search.proofs.Explores.{explored_new, explored_scan, explored_gate, needed, cut_off}
+use Rattle.search.proofs.Rolled.{unseen}
+use Rattle.search.proofs.Explores.{explored_scan, explored_gate, needed, cut_off}
 use Rattle.search.proofs.spread.explore.Goals as goal
 
-pub loop-seen-init : goal.loop-seen-init
-loop-seen-init c =
-    let s = c.new-seen.ensures in
-    explored_new _ _ _ _ _ s.count s.root s.only
-
-pub loop-seen-preserved-then-done-seen : goal.loop-seen-preserved-then-done-seen
-loop-seen-preserved-then-done-seen c =
+pub loop-ends-preserved-then-done-seen : goal.loop-ends-preserved-then-done-seen
+loop-ends-preserved-then-done-seen c =
     let s = c.scan.ensures in
-    explored_scan _ _ _ _ _ _ _ _ c.loop-seen.invariant (omega arith) s.more s.forth s.back
+    explored_scan _ _ _ _ _ _ _ _ c.loop-ends.invariant (omega arith) s.more s.forth s.back
 
 -- no arc leaves the seen places
 pub returns-in_err-start : goal.returns-in_err-start
@@ -19,7 +15,7 @@ returns-in_err-start c =
     let s = c.requires.sound in
     let long : length c.args.graph.now.arcs.now ≤ length c.args.flow.now = omega (arith, c.args.graph.now.proper.few_arcs, c.told-flow) in
     let none : Refused c.args.graph.now.arcs.now c.args.ends.from c.args.ends.to =
-    cut_off _ _ _ _ s.0 s.1 s.2 long _ _ _ c.loop-seen.invariant (omega arith) c.loop-seen-test.true c.in_err-start.ensures in
+    cut_off _ _ _ _ s.0 s.1 s.2 long _ _ _ c.loop-ends.invariant (omega arith) (unseen _ c.loop-ends-test.ensures) c.in_err-start.ensures in
     rw c.from_residual.ensures none
 
 -- the one that does is on every route
@@ -27,12 +23,12 @@ pub returns-then-arc-lt-BOTH : goal.returns-then-arc-lt-BOTH
 returns-then-arc-lt-BOTH c =
     let s = c.requires.sound in
     let long : length c.args.graph.now.arcs.now ≤ length c.args.flow.now = omega (arith, c.args.graph.now.proper.few_arcs, c.told-flow) in
-    inr (c.in_ok-start.c, needed _ _ _ _ s.0 s.1 s.2 long _ _ _ c.loop-seen.invariant (omega arith) c.loop-seen-test.true _ c.in_ok-start.ensures.2, omega arith)
+    inr (c.in_ok-start.c, needed _ _ _ _ s.0 s.1 s.2 long _ _ _ c.loop-ends.invariant (omega arith) (unseen _ c.loop-ends-test.ensures) _ c.in_ok-start.ensures.2, omega arith)
 
-pub loop-seen-preserved : goal.loop-seen-preserved
-loop-seen-preserved c =
+pub loop-ends-preserved : goal.loop-ends-preserved
+loop-ends-preserved c =
     let s = c.requires.sound in
     let e = c.in_ok-start.ensures in
     let long : length c.args.graph.now.arcs.now ≤ length c.args.flow.now = omega (arith, c.args.graph.now.proper.few_arcs, c.told-flow) in
-    explored_gate _ _ _ _ s.0 s.1 s.2 long _ _ _ c.loop-seen.invariant (omega arith) c.loop-seen-test.true _ c.in_ok-start.c _ e.2
+    explored_gate _ _ _ _ s.0 s.1 s.2 long _ _ _ c.loop-ends.invariant (omega arith) (unseen _ c.loop-ends-test.ensures) _ c.in_ok-start.c _ e.2
     (omega (arith, c.if-arc-lt-BOTH.false, (c.args.graph.now.proper.joins c.in_ok-start.c e.2.is).few)) c.see.ensures e.0 e.1
