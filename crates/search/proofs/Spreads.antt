@@ -1,85 +1,55 @@
 -- A search goes on from one place along its arcs. Assumes nothing.
-use Rattle.std.proofs.Common.{ℕ, ◌<◌, ◌≤◌, List, length, get_or, sym, refl, subst, arith}
+use Rattle.std.proofs.Common.{◌≡◌, ℕ, ◌∙◌, ◌<◌, List, [], ◌∷◌, length, get_or, sym, ap, subst, arith}
 use Rattle.search.specs.declared.Arc.{Arc}
 use Rattle.search.specs.declared.spread.Seen.{Seen}
+use Rattle.search.specs.declared.graph.By.{By}
+use Rattle.search.specs.declared.graph.By.TheVariants.{Start, End}
 use Rattle.search.specs.Graph.{arc}
-use Rattle.search.specs.Links.{ByStart, ByEnd}
+use Rattle.search.specs.Links.{end_by, arcs_at}
 use Rattle.search.specs.Trees.{Never}
-use Rattle.search.specs.Rolls.{IsSeen, Roll, Noted, More, Unused, SpentForth, SpentBack, Passed}
-use Rattle.search.proofs.Chained.{Walked, walked_none, walked_more, walked_all}
+use Rattle.search.specs.Rolls.{IsSeen, Noted, More, Unused}
+use Rattle.search.proofs.Chained.{IsAt, Walked, walked_none, walked_at, walked_more, walked_all}
 use Rattle.search.proofs.Rolled.{more_none, more_more, more_forth, more_back, stays}
 
--- from s0 to s the arcs of p below c were used
-pub record ForthTo (g : List Arc) (f : List ℕ) (s0 s : Seen) (p c : ℕ) : Type 0 where
-  pub more : More g f (Unused g f) s0 s
-  pub walked : Walked g (λ x. x.from) p (λ d. Unused g f d → IsSeen s (arc g d).to) c
+-- from s0 to s each arc at p that is not left and that Goes allows led to a place that is seen
+pub record SpreadTo (g : List Arc) (f : List ℕ) (F : ℕ → Type 0) (by : By) (far : Arc → ℕ) (Goes : ℕ → Type 0) (s0 s : Seen) (p : ℕ) (left : List (ℕ × Arc)) : Type 0 where
+  pub more : More g f F s0 s
+  pub walked : Walked g by p (λ d. Goes d → IsSeen s (far (arc g d))) left
 
-module _ (g : List Arc) (f : List ℕ) (first next : List ℕ) (linked : ByStart g first next) (s0 : Seen) (p : ℕ) where
-  pub forth_none : p < 128 → Roll s0 → ForthTo g f s0 s0 p (get_or first p 0)
-  forth_none l roll = record { more = more_none g f _ s0 roll; walked = walked_none g _ first next linked p _ l }
+module _ (g : List Arc) (f : List ℕ) (F : ℕ → Type 0) (by : By) (far : Arc → ℕ) (Goes : ℕ → Type 0) (s0 : Seen) (p : ℕ) where
+  pub spread_none : (left : List (ℕ × Arc)) → left ≡ arcs_at g by p 0 → SpreadTo g f F by far Goes s0 s0 p left
+  spread_none left e = record { more = more_none g f F s0; walked = walked_none g by p _ left e }
 
-  -- an arc of no use
-  pub forth_past : (s : Seen) (c : ℕ) → c < length g → ForthTo g f s0 s p c → (Unused g f c → ⊥) → ForthTo g f s0 s p (get_or next c 0)
-  forth_past s c l old idle = record {
-    more = old.more;
-    walked = walked_more g _ first next linked p _ (λ d. Unused g f d → IsSeen s (arc g d).to) c l old.walked (λ d h. h) (λ at u. absurd (idle u));
-  }
+  module _ (left next : List (ℕ × Arc)) (x : ℕ × Arc) (e : left ≡ x ∷ next) (s : Seen) (old : SpreadTo g f F by far Goes s0 s p left) where
+    pub spread_at : IsAt g by p x
+    spread_at = walked_at g by p _ left next x e old.walked
 
-  -- an arc that carries nothing
-  pub forth_by : (s t : Seen) (c : ℕ) → c < length g → IsSeen s0 p → ForthTo g f s0 s p c → Unused g f c → Noted s t (arc g c).to c → ForthTo g f s0 t p (get_or next c 0)
-  forth_by s t c l seen old u noted =
-      let roll = old.more.roll in
-      let from_seen : IsSeen s (arc g c).from = subst (IsSeen s) (sym (old.walked.on l)) (stays g f _ s0 s old.more p seen) in
-      let one = more_forth g f (Unused g f) s t (arc g c).to c roll noted l refl u from_seen in
-      record {
-        more = more_more g f (Unused g f) (Unused g f) s0 s t (λ d h. h) old.more one;
-        walked = walked_more g _ first next linked p _ (λ d. Unused g f d → IsSeen s (arc g d).to) c l old.walked (λ d h u. stays g f _ s t one (arc g d).to (h u)) (λ at u. noted.seen);
-      }
+    -- an arc of no use
+    pub spread_past : (Goes x.0 → ⊥) → SpreadTo g f F by far Goes s0 s p next
+    spread_past idle = record {
+      more = old.more;
+      walked = walked_more g by p _ left next x e (λ d. Goes d → IsSeen s (far (arc g d))) old.walked (λ d h. h) (λ u. absurd (idle u));
+    }
 
-  pub forth_all : (s : Seen) (c : ℕ) → length g ≤ c → ForthTo g f s0 s p c → SpentForth g f s p
-  forth_all s c past old = walked_all g _ first next linked p _ c past old.walked
+    -- an arc that led on
+    pub spread_by : (t : Seen) → More g f F s t → IsSeen t (far x.1) → SpreadTo g f F by far Goes s0 t p next
+    spread_by t one seen = record {
+      more = more_more g f F F s0 s t (λ d h. h) old.more one;
+      walked = walked_more g by p _ left next x e (λ d. Goes d → IsSeen t (far (arc g d))) old.walked (λ d h u. stays g f F s t one (far (arc g d)) (h u)) (λ u. subst (λ a. IsSeen t (far a)) spread_at.same seen);
+    }
 
-pub record BackTo (g : List Arc) (f : List ℕ) (s0 s : Seen) (p c : ℕ) : Type 0 where
-  pub more : More g f Never s0 s
-  pub walked : Walked g (λ x. x.to) p (λ d. 0 < get_or f d 0 → IsSeen s (arc g d).from) c
+  pub spread_all : (s : Seen) (left : List (ℕ × Arc)) → left ≡ [] → SpreadTo g f F by far Goes s0 s p left → (c : ℕ) → c < length g → end_by by (arc g c) ≡ p → Goes c → IsSeen s (far (arc g c))
+  spread_all s left e old = walked_all g by p _ left e old.walked
 
-module _ (g : List Arc) (f : List ℕ) (first next : List ℕ) (linked : ByEnd g first next) (s0 : Seen) (p : ℕ) where
-  pub back_none : p < 128 → Roll s0 → BackTo g f s0 s0 p (get_or first p 0)
-  back_none l roll = record { more = more_none g f _ s0 roll; walked = walked_none g _ first next linked p _ l }
+-- from s to t a place was seen by an arc x at p
+module _ (g : List Arc) (f : List ℕ) (s t : Seen) (p : ℕ) (x : ℕ × Arc) (seen : IsSeen s p) where
+  pub by_forth : IsAt g Start p x → Unused g f x.0 → Noted s t x.1.to x.0 → More g f (Unused g f) s t
+  by_forth at u noted =
+      more_forth g f (Unused g f) s t x.1.to x.0 noted at.is (ap (λ a. a.to) (sym at.same)) u (subst (IsSeen s) (sym at.on ∙ ap (λ a. a.from) at.same) seen)
 
-  -- an arc that brings nothing
-  pub back_past : (s : Seen) (c : ℕ) → c < length g → BackTo g f s0 s p c → get_or f c 0 ≤ 0 → BackTo g f s0 s p (get_or next c 0)
-  back_past s c l old idle = record {
-    more = old.more;
-    walked = walked_more g _ first next linked p _ (λ d. 0 < get_or f d 0 → IsSeen s (arc g d).from) c l old.walked (λ d h. h) (λ at u. absurd (omega (arith, idle, u)));
-  }
+  pub by_back : IsAt g End p x → 0 < get_or f x.0 0 → Noted s t x.1.from x.0 → More g f Never s t
+  by_back at u noted =
+      more_back g f Never s t x.1.from x.0 noted at.is (ap (λ a. a.from) (sym at.same)) u (subst (IsSeen s) (sym at.on ∙ ap (λ a. a.to) at.same) seen)
 
-  -- an arc that brings something
-  pub back_by : (s t : Seen) (c : ℕ) → c < length g → IsSeen s0 p → BackTo g f s0 s p c → 0 < get_or f c 0 → Noted s t (arc g c).from c → BackTo g f s0 t p (get_or next c 0)
-  back_by s t c l seen old u noted =
-      let roll = old.more.roll in
-      let to_seen : IsSeen s (arc g c).to = subst (IsSeen s) (sym (old.walked.on l)) (stays g f _ s0 s old.more p seen) in
-      let one = more_back g f Never s t (arc g c).from c roll noted l refl u to_seen in
-      record {
-        more = more_more g f Never Never s0 s t (λ d h. h) old.more one;
-        walked = walked_more g _ first next linked p _ (λ d. 0 < get_or f d 0 → IsSeen s (arc g d).from) c l old.walked (λ d h u. stays g f _ s t one (arc g d).from (h u)) (λ at u. noted.seen);
-      }
-
-  pub back_all : (s : Seen) (c : ℕ) → length g ≤ c → BackTo g f s0 s p c → SpentBack g f s p
-  back_all s c past old = walked_all g _ first next linked p _ c past old.walked
-
--- of the arcs of p below c none leaves the seen places
-pub record PassedTo (g : List Arc) (s : Seen) (p c : ℕ) : Type 0 where
-  pub walked : Walked g (λ x. x.from) p (λ d. 0 < (arc g d).lanes → IsSeen s (arc g d).to) c
-
-module _ (g : List Arc) (first next : List ℕ) (linked : ByStart g first next) (s : Seen) (p : ℕ) where
-  pub passed_none : p < 128 → PassedTo g s p (get_or first p 0)
-  passed_none l = record { walked = walked_none g _ first next linked p _ l }
-
-  pub passed_more : (c : ℕ) → c < length g → PassedTo g s p c → (0 < (arc g c).lanes → IsSeen s (arc g c).to) → PassedTo g s p (get_or next c 0)
-  passed_more c l old here = record {
-    walked = walked_more g _ first next linked p _ (λ d. 0 < (arc g d).lanes → IsSeen s (arc g d).to) c l old.walked (λ d h. h) (λ at. here);
-  }
-
-  pub passed_all : (c : ℕ) → length g ≤ c → PassedTo g s p c → Passed g s p
-  passed_all c past old = walked_all g _ first next linked p _ c past old.walked
+pub unused : (g : List Arc) (f : List ℕ) (by : By) (p : ℕ) (x : ℕ × Arc) → IsAt g by p x → 0 < x.1.lanes → get_or f x.0 0 ≡ 0 → Unused g f x.0
+unused g f by p x at h z = record { usable = omega (arith, h, ap (λ a. a.lanes) at.same); idle = z }

@@ -1,7 +1,10 @@
 -- The arcs that start at one place, or end at it, each with a link to the next. Assumes nothing.
-use Rattle.std.specs.Prelude.{◌≡◌, ℕ, ◌+◌, ◌<◌, ◌≤◌, List, length, ◌≢◌, slice_index}
+use Rattle.std.specs.Prelude.{◌≡◌, ℕ, ◌+◌, ◌<◌, ◌≤◌, ◌==◌, List, length, drop, filter, ◌≢◌, slice_index}
+use Rattle.std.specs.List.{enumerate_from}
 use Rattle.search.specs.declared.Arc.{Arc}
-use Rattle.search.specs.declared.index.Index.{Index}
+use Rattle.search.specs.declared.graph.By.{By}
+use Rattle.search.specs.declared.graph.By.TheVariants.{Start, End}
+use Rattle.search.specs.declared.graph.Chains.{Chains}
 use Rattle.search.specs.Graph.{arc}
 
 -- c is the first arc numbered lo or more whose end, as e tells it, is p; where there is none, c is past all arcs
@@ -26,6 +29,15 @@ abbrev pub ByEnd : List Arc → List ℕ → List ℕ → Type 0
 ByEnd g first next = Linked g (λ x. x.to) 0 first next
 
 -- the arcs both ways
-pub record Indexed (g : List Arc) (x : Index) : Type 0 where
-  pub out : ByStart g x.out.first x.out.next
-  pub into : ByEnd g x.into.first x.into.next
+pub record Indexed (g : List Arc) (starts ends : Chains) : Type 0 where
+  pub out : ByStart g starts.first starts.next
+  pub into : ByEnd g ends.first ends.next
+
+-- the place at that end of an arc
+abbrev pub end_by : By → Arc → ℕ
+end_by Start x = x.from
+end_by End x = x.to
+
+-- the arcs numbered lo or more that have the place p at that end, each with its number
+abbrev pub arcs_at : List Arc → By → ℕ → ℕ → List (ℕ × Arc)
+arcs_at g by p lo = filter (λ x. end_by by x.1 == p) (enumerate_from lo (drop lo g))

@@ -1,27 +1,16 @@
 -- The roll of the places that a search has seen, and what is known of those that it has dealt with. Assumes nothing.
-use Rattle.std.specs.Prelude.{◌≡◌, ℕ, ◌+◌, ◌-◌, ◌<◌, ◌≤◌, List, length, slice_index, slice_index_or}
+use Rattle.std.specs.Prelude.{◌≡◌, ℕ, ◌<◌, ◌≤◌, List, length, slice_index, slice_index_or}
 use Rattle.search.specs.declared.Arc.{Arc}
 use Rattle.search.specs.declared.spread.Seen.{Seen}
 use Rattle.search.specs.Graph.{arc}
-use Rattle.search.specs.Trees.{zeros, Step}
+use Rattle.search.specs.Trees.{Step}
 
 -- place p is seen
 abbrev pub IsSeen : Seen → ℕ → Type 0
 IsSeen s p = 0 < slice_index s.rank p
 
--- the places that are seen stand in `order`, each where its rank says
-pub record Roll (s : Seen) : Type 0 where
-  pub counted : s.count + zeros s.rank ≡ 128
-  pub below : (p : ℕ) → slice_index s.rank p ≤ s.count
-  pub listed : (i : ℕ) → i < s.count → slice_index s.rank (slice_index s.order i) ≡ i + 1
-  pub placed : (p : ℕ) → IsSeen s p → slice_index s.order (slice_index s.rank p - 1) ≡ p
-  pub rank_long : length s.rank ≡ 128
-  pub via_long : length s.via ≡ 128
-  pub order_long : length s.order ≡ 128
-
 -- from s to t at most the place p was added, by the arc c, and now it is seen
 pub record Noted (s t : Seen) (p c : ℕ) : Type 0 where
-  pub roll : Roll t
   pub seen : IsSeen t p
   pub kept : (q : ℕ) → IsSeen s q → (slice_index t.rank q ≡ slice_index s.rank q) × (slice_index t.via q ≡ slice_index s.via q)
   pub new : (q : ℕ) → slice_index s.rank q ≡ 0 → IsSeen t q → (q ≡ p) × (slice_index t.via q ≡ c)
@@ -31,7 +20,6 @@ pub record Noted (s t : Seen) (p c : ℕ) : Type 0 where
 -- the search went on from s to t: what was seen is as it was, and each new place, with a higher rank, was seen by an
 -- arc that carries something, used back, or by one that F allows
 pub record More (g : List Arc) (f : List ℕ) (F : ℕ → Type 0) (s t : Seen) : Type 0 where
-  pub roll : Roll t
   pub kept : (p : ℕ) → IsSeen s p → (slice_index t.rank p ≡ slice_index s.rank p) × (slice_index t.via p ≡ slice_index s.via p)
   pub new : (p : ℕ) → slice_index s.rank p ≡ 0 → IsSeen t p → Step g f F t.rank (slice_index t.via p) p
   pub later : (p : ℕ) → slice_index s.rank p ≡ 0 → IsSeen t p → s.count < slice_index t.rank p

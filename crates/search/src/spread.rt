@@ -1,13 +1,11 @@
 // The places that a search has seen, and how it spreads from them.
-ghost use Rattle.std.specs.Prelude.{◌≡◌, ℕ, ◌+◌, ◌<◌, ◌≤◌, length, replicate, MatchOption, slice_set};
-ghost use Rattle.search.specs.Graph.{Proper, Refused};
+ghost use Rattle.std.specs.Prelude.{◌≡◌, ℕ, ◌+◌, ◌<◌, ◌≤◌, MatchOption, nat_lt, slice_index};
+ghost use Rattle.search.specs.Graph.{Refused};
 ghost use Rattle.search.specs.Flows.{Carries, Sound};
-ghost use Rattle.search.specs.Links.{ByStart, ByEnd, Indexed};
-ghost use Rattle.search.specs.Trees.{Free, Never, Reached};
-ghost use Rattle.search.specs.Rolls.{IsSeen, Roll, Noted, More, Unused, SpentForth, SpentBack, Passed, Leaves, OfFirst};
+ghost use Rattle.search.specs.Trees.{Free, Never, Reached, Roll};
 
-use crate::index::{Chains, Index};
-use crate::{Arc, MAX_PLACES};
+use crate::graph::Graph;
+use crate::{Ends, MAX_ARCS, MAX_PLACES};
 
 // The lanes of an arc that both routes may use.
 const BOTH: u8 = 2;
@@ -20,15 +18,17 @@ pub(crate) struct Seen {
     pub(crate) rank: [u8; MAX_PLACES],
     pub(crate) via: [u16; MAX_PLACES],
     pub(crate) order: [u8; MAX_PLACES],
+    ghost roll: { Roll count rank via order },
 }
 
 impl Seen {
+    ghost use Rattle.search.specs.Rolls.{IsSeen, Noted, More, Unused, SpentForth, SpentBack, Passed, Leaves, OfFirst};
+
     fn new(root: usize) -> Seen
         requires { root < 128 }
         ensures count { result.count ≡ 1 }
-        ensures rank { result.rank ≡ slice_set (replicate 128 0) root 1 }
-        ensures via { result.via ≡ replicate 128 0 }
-        ensures order { result.order ≡ slice_set (replicate 128 0) 0 root }
+        ensures root { IsSeen result root }
+        ensures only { (p : ℕ) → IsSeen result p → p ≡ root }
     {
         let mut rank = [0; MAX_PLACES];
         let mut order = [0; MAX_PLACES];
@@ -42,14 +42,20 @@ impl Seen {
         }
     }
 
+    // Whether a place was seen.
+    fn has(&self, place: usize) -> bool
+        ensures { result ≡ nat_lt 0 (slice_index self.now.rank place) }
+    {
+        self.rank.get(place).is_some_and(|rank| *rank > 0)
+    }
+
     // Notes a place as seen by an arc, unless it was seen before.
     fn see(&mut self, place: usize, c: usize)
         requires place { place < 128 }
         requires arc { c < 384 }
-        requires roll { Roll self.old }
         ensures { Noted self.old self.new place c }
     {
-        if self.rank[place] == 0 {
+        if !self.has(place) {
             self.order[self.count] = place as u8;
             self.count += 1;
             self.rank[place] = self.count as u8;
@@ -58,91 +64,62 @@ impl Seen {
     }
 
     // Sees the places to which usable arcs that carry nothing lead from a seen place.
-    fn go_forth(&mut self, arcs: &[Arc], out: &Chains, flow: &[u8], place: usize)
-        requires proper { Proper arcs.now 128 }
-        requires out { ByStart arcs.now out.now.first out.now.next }
-        requires flow { length flow.now ≡ 384 }
-        requires roll { Roll self.old }
-        requires place { place < 128 }
-        requires seen { IsSeen self.old place }
-        ensures more { More arcs.now flow.now (Unused arcs.now flow.now) self.old self.new }
-        ensures spent { SpentForth arcs.now flow.now self.new place }
+    fn go_forth(&mut self, graph: &Graph<'_>, flow: &[u8; MAX_ARCS], place: usize)
+        requires { IsSeen self.old place }
+        ensures more { More graph.now.arcs.now flow.now (Unused graph.now.arcs.now flow.now) self.old self.new }
+        ensures spent { SpentForth graph.now.arcs.now flow.now self.new place }
     {
-        let mut c = out.first[place] as usize;
-        while c < arcs.len() {
-            if arcs[c].lanes > 0 && flow[c] == 0 {
-                self.see(arcs[c].to as usize, c);
+        for (c, arc) in graph.leaving(place) {
+            if arc.lanes > 0 && flow[c] == 0 {
+                self.see(arc.to as usize, c);
             }
-            c = out.next[c] as usize;
         }
     }
 
     // Sees the places from which arcs bring something to a seen place.
-    fn go_back(&mut self, arcs: &[Arc], into: &Chains, flow: &[u8], place: usize)
-        requires proper { Proper arcs.now 128 }
-        requires into { ByEnd arcs.now into.now.first into.now.next }
-        requires flow { length flow.now ≡ 384 }
-        requires roll { Roll self.old }
-        requires place { place < 128 }
-        requires seen { IsSeen self.old place }
-        ensures more { More arcs.now flow.now Never self.old self.new }
-        ensures spent { SpentBack arcs.now flow.now self.new place }
+    fn go_back(&mut self, graph: &Graph<'_>, flow: &[u8; MAX_ARCS], place: usize)
+        requires { IsSeen self.old place }
+        ensures more { More graph.now.arcs.now flow.now Never self.old self.new }
+        ensures spent { SpentBack graph.now.arcs.now flow.now self.new place }
     {
-        let mut c = into.first[place] as usize;
-        while c < arcs.len() {
+        for (c, arc) in graph.entering(place) {
             if flow[c] > 0 {
-                self.see(arcs[c].from as usize, c);
+                self.see(arc.from as usize, c);
             }
-            c = into.next[c] as usize;
         }
     }
 
     // Sees all that can be reached from one place by an arc that carries nothing, or back by one that carries something.
-    fn scan(&mut self, arcs: &[Arc], index: &Index, flow: &[u8], place: usize)
-        requires proper { Proper arcs.now 128 }
-        requires index { Indexed arcs.now index.now }
-        requires flow { length flow.now ≡ 384 }
-        requires roll { Roll self.old }
-        requires place { place < 128 }
-        requires seen { IsSeen self.old place }
-        ensures more { More arcs.now flow.now (Unused arcs.now flow.now) self.old self.new }
-        ensures forth { SpentForth arcs.now flow.now self.new place }
-        ensures back { SpentBack arcs.now flow.now self.new place }
+    fn scan(&mut self, graph: &Graph<'_>, flow: &[u8; MAX_ARCS], place: usize)
+        requires { IsSeen self.old place }
+        ensures more { More graph.now.arcs.now flow.now (Unused graph.now.arcs.now flow.now) self.old self.new }
+        ensures forth { SpentForth graph.now.arcs.now flow.now self.new place }
+        ensures back { SpentBack graph.now.arcs.now flow.now self.new place }
     {
-        self.go_forth(arcs, &index.out, flow, place);
-        self.go_back(arcs, &index.into, flow, place);
+        self.go_forth(graph, flow, place);
+        self.go_back(graph, flow, place);
     }
 
     // The first usable arc from a seen place to one that is not seen.
-    fn leaving_arc(&self, arcs: &[Arc], out: &Chains, place: usize) -> Option<usize>
-        requires proper { Proper arcs.now 128 }
-        requires out { ByStart arcs.now out.now.first out.now.next }
-        requires place { place < 128 }
-        requires seen { IsSeen self.now place }
-        ensures { MatchOption result (Passed arcs.now self.now place) (λ c. Leaves arcs.now self.now c) }
+    fn leaving_arc(&self, graph: &Graph<'_>, place: usize) -> Option<usize>
+        requires { IsSeen self.now place }
+        ensures { MatchOption result (Passed graph.now.arcs.now self.now place) (λ c. Leaves graph.now.arcs.now self.now c) }
     {
-        let mut c = out.first[place] as usize;
-        while c < arcs.len() {
-            let arc = arcs[c];
-            if arc.lanes > 0 && self.rank[arc.to as usize] == 0 {
-                return Some(c);
-            }
-            c = out.next[c] as usize;
-        }
-        None
+        let (c, _) = graph
+            .leaving(place)
+            .find(|(_, arc)| arc.lanes > 0 && !self.has(arc.to as usize))?;
+        Some(c)
     }
 
     // The first usable arc to a place that is not seen, and where in `order` it starts, from `held` on.
-    fn gate(&self, arcs: &[Arc], out: &Chains, held: usize) -> Option<(usize, usize)>
-        requires proper { Proper arcs.now 128 }
-        requires out { ByStart arcs.now out.now.first out.now.next }
-        requires roll { Roll self.now }
-        requires passed { OfFirst held self.now (Passed arcs.now self.now) }
-        ensures { MatchOption result ((c : ℕ) → Leaves arcs.now self.now c → ⊥) (λ x. (x.0 < self.now.count) × (OfFirst x.0 self.now (Passed arcs.now self.now)) × (Leaves arcs.now self.now x.1)) }
+    fn gate(&self, graph: &Graph<'_>, held: usize) -> Option<(usize, usize)>
+        requires held { held ≤ self.now.count }
+        requires passed { OfFirst held self.now (Passed graph.now.arcs.now self.now) }
+        ensures { MatchOption result ((c : ℕ) → Leaves graph.now.arcs.now self.now c → ⊥) (λ x. (x.0 < self.now.count) × (OfFirst x.0 self.now (Passed graph.now.arcs.now self.now)) × (Leaves graph.now.arcs.now self.now x.1)) }
     {
-        for i in held..self.count {
-            if let Some(c) = self.leaving_arc(arcs, out, self.order[i] as usize) {
-                return Some((i, c));
+        for (i, place) in self.order[held..self.count].iter().enumerate() {
+            if let Some(c) = self.leaving_arc(graph, *place as usize) {
+                return Some((held + i, c));
             }
         }
         None
@@ -151,36 +128,26 @@ impl Seen {
 
 // Looks for a way from `from` to `to` by which one unit more can go: first all that arcs without flow lead to, or arcs with
 // flow lead back to; where that is all, on through the gate, an arc that every route needs. None: there are no two routes.
-pub(crate) fn explore(
-    arcs: &[Arc],
-    index: &Index,
-    flow: &[u8],
-    from: usize,
-    to: usize,
-) -> Option<Seen>
-    requires proper { Proper arcs.now 128 }
-    requires index { Indexed arcs.now index.now }
-    requires flow { length flow.now ≡ 384 }
-    requires from { from < 128 }
-    requires to { to < 128 }
-    requires sound { (k : ℕ) × (k ≤ 1) × Sound arcs.now flow.now k from to }
-    ensures { MatchOption result (Refused arcs.now from to) (λ s. Reached arcs.now flow.now (Free arcs.now flow.now from to) from to s.rank s.via) }
+pub(crate) fn explore(graph: &Graph<'_>, flow: &[u8; MAX_ARCS], ends: Ends) -> Option<Seen>
+    requires sound { (k : ℕ) × (k ≤ 1) × Sound graph.now.arcs.now flow.now k ends.from ends.to }
+    ensures { MatchOption result (Refused graph.now.arcs.now ends.from ends.to) (λ s. Reached graph.now.arcs.now flow.now (Free graph.now.arcs.now flow.now ends.from ends.to) ends.from ends.to s.rank s.via) }
 {
-    let mut seen = Seen::new(from);
+    let mut seen = Seen::new(ends.from);
     // Of the places in `order`, how many were scanned, and how many have no gate any more.
     let mut done = 0;
     let mut held = 0;
-    while seen.rank[to] == 0 {
+    while !seen.has(ends.to) {
         if done < seen.count {
             let place = seen.order[done] as usize;
-            seen.scan(arcs, index, flow, place);
+            seen.scan(graph, flow, place);
             done += 1;
         } else {
-            let (start, c) = seen.gate(arcs, &index.out, held)?;
-            if arcs[c].lanes < BOTH {
+            let (start, c) = seen.gate(graph, held)?;
+            let arc = graph.arcs[c];
+            if arc.lanes < BOTH {
                 return None;
             }
-            seen.see(arcs[c].to as usize, c);
+            seen.see(arc.to as usize, c);
             held = start;
         }
     }
@@ -188,20 +155,15 @@ pub(crate) fn explore(
 }
 
 // Finds the places from which the flow comes to `to`, as far back as `from`.
-pub(crate) fn gather(arcs: &[Arc], into: &Chains, flow: &[u8], from: usize, to: usize) -> Seen
-    requires proper { Proper arcs.now 128 }
-    requires into { ByEnd arcs.now into.now.first into.now.next }
-    requires flow { length flow.now ≡ 384 }
-    requires from { from < 128 }
-    requires to { to < 128 }
-    requires carries { (k : ℕ) × Carries arcs.now flow.now (k + 1) from to }
-    ensures { Reached arcs.now flow.now Never to from result.rank result.via }
+pub(crate) fn gather(graph: &Graph<'_>, flow: &[u8; MAX_ARCS], ends: Ends) -> Seen
+    requires carries { (k : ℕ) × Carries graph.now.arcs.now flow.now (k + 1) ends.from ends.to }
+    ensures { Reached graph.now.arcs.now flow.now Never ends.to ends.from result.rank result.via }
 {
-    let mut seen = Seen::new(to);
+    let mut seen = Seen::new(ends.to);
     let mut done = 0;
-    while seen.rank[from] == 0 {
+    while !seen.has(ends.from) {
         let place = seen.order[done] as usize;
-        seen.go_back(arcs, into, flow, place);
+        seen.go_back(graph, flow, place);
         done += 1;
     }
     seen

@@ -1,7 +1,7 @@
 // The search on small networks.
 #![tactic(auto)]
 
-ghost use Rattle.std.specs.Prelude.{◌≡◌, true};
+ghost use Rattle.std.specs.Prelude.{IsTrue};
 ghost use Rattle.search.specs.Graph.{Proper};
 
 #[cfg(test)]
@@ -15,19 +15,13 @@ mod tests {
 
     // Whether the arcs join places below `places`.
     fn is_proper(arcs: &[Arc], places: usize) -> bool
-        ensures { result ≡ true → Proper arcs.now places }
+        ensures { IsTrue result → Proper arcs.now places }
     {
-        if arcs.len() > MAX_ARCS || places > MAX_PLACES {
-            return false;
-        }
-        for c in 0..arcs.len() {
-            let arc = arcs[c];
+        let few = arcs.len() <= MAX_ARCS && places <= MAX_PLACES;
+        few && arcs.iter().all(|arc| {
             let ends = (arc.from as usize) < places && (arc.to as usize) < places;
-            if !ends || arc.from == arc.to || arc.lanes > 2 {
-                return false;
-            }
-        }
-        true
+            ends && arc.from != arc.to && arc.lanes <= 2
+        })
     }
 
     // The two routes, where they can be asked for.

@@ -4,7 +4,7 @@ use Rattle.search.proofs.follow.Given as goal
 
 abbrev pub invariant-loop-place : goal.invariant-loop-place
 invariant-loop-place l =
-    (Part l.arcs l.initial.flow l.flow l.from l.to l.seen.rank l.seen.via l.place (take l.n l.route))
+    (Part l.graph.arcs.now l.initial.flow l.flow l.ends.from l.ends.to l.seen.rank l.seen.via l.place (take l.n l.route))
     × (l.n ≤ length l.route)
     × (drop l.n l.route ≡ drop l.n l.initial.route)
 

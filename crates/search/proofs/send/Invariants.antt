@@ -3,7 +3,7 @@ use Rattle.search.proofs.Sends.{Sent}
 use Rattle.search.proofs.send.Given as goal
 
 abbrev pub invariant-loop-place : goal.invariant-loop-place
-invariant-loop-place l = Sent l.arcs l.initial.flow l.flow l.from l.to l.seen.rank l.seen.via l.place
+invariant-loop-place l = Sent l.graph.arcs.now l.initial.flow l.flow l.ends.from l.ends.to l.seen.rank l.seen.via l.place
 
 abbrev pub decreases-loop-place : goal.decreases-loop-place
 decreases-loop-place l = get_or l.seen.rank l.place 0

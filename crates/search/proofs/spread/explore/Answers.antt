@@ -1,38 +1,34 @@
 use Rattle.std.proofs.Common.{◌≤◌, length, inr, arith}
 use Rattle.search.specs.Graph.{Refused}
-use Rattle.search.proofs.Explores.{explored_new, explored_scan, explored_gate, needed, cut_off}
+use Rattle.search.proofs.Rolled.{unseen}
+use Rattle.search.proofs.Explores.{explored_scan, explored_gate, needed, cut_off}
 use Rattle.search.proofs.spread.explore.Goals as goal
 
-pub loop-seen-init : goal.loop-seen-init
-loop-seen-init c =
-    let s = c.new-seen.ensures in
-    explored_new _ _ _ _ _ c.requires.from s.count s.rank s.via s.order
-
-pub loop-seen-preserved-then-done-seen : goal.loop-seen-preserved-then-done-seen
-loop-seen-preserved-then-done-seen c =
+pub loop-ends-preserved-then-done-seen : goal.loop-ends-preserved-then-done-seen
+loop-ends-preserved-then-done-seen c =
     let s = c.scan.ensures in
-    explored_scan _ _ _ _ _ _ _ _ c.loop-seen.invariant (omega arith) s.more s.forth s.back
+    explored_scan _ _ _ _ _ _ _ _ c.loop-ends.invariant (omega arith) s.more s.forth s.back
 
 -- no arc leaves the seen places
 pub returns-in_err-start : goal.returns-in_err-start
 returns-in_err-start c =
     let s = c.requires.sound in
-    let long : length c.args.arcs.now ≤ length c.args.flow.now = omega (arith, c.requires.proper.few_arcs, c.requires.flow) in
-    let none : Refused c.args.arcs.now c.args.from c.args.to =
-    cut_off _ _ _ _ s.0 s.1 s.2 long _ _ _ c.loop-seen.invariant (omega arith) c.loop-seen-test.true c.in_err-start.ensures in
+    let long : length c.args.graph.now.arcs.now ≤ length c.args.flow.now = omega (arith, c.args.graph.now.proper.few_arcs, c.told-flow) in
+    let none : Refused c.args.graph.now.arcs.now c.args.ends.from c.args.ends.to =
+    cut_off _ _ _ _ s.0 s.1 s.2 long _ _ _ c.loop-ends.invariant (omega arith) (unseen _ c.loop-ends-test.ensures) c.in_err-start.ensures in
     rw c.from_residual.ensures none
 
 -- the one that does is on every route
-pub returns-then-arcs-c-lt-BOTH : goal.returns-then-arcs-c-lt-BOTH
-returns-then-arcs-c-lt-BOTH c =
+pub returns-then-arc-lt-BOTH : goal.returns-then-arc-lt-BOTH
+returns-then-arc-lt-BOTH c =
     let s = c.requires.sound in
-    let long : length c.args.arcs.now ≤ length c.args.flow.now = omega (arith, c.requires.proper.few_arcs, c.requires.flow) in
-    inr (c.in_ok-start.c, needed _ _ _ _ s.0 s.1 s.2 long _ _ _ c.loop-seen.invariant (omega arith) c.loop-seen-test.true _ c.in_ok-start.ensures.2, omega arith)
+    let long : length c.args.graph.now.arcs.now ≤ length c.args.flow.now = omega (arith, c.args.graph.now.proper.few_arcs, c.told-flow) in
+    inr (c.in_ok-start.c, needed _ _ _ _ s.0 s.1 s.2 long _ _ _ c.loop-ends.invariant (omega arith) (unseen _ c.loop-ends-test.ensures) _ c.in_ok-start.ensures.2, omega arith)
 
-pub loop-seen-preserved : goal.loop-seen-preserved
-loop-seen-preserved c =
+pub loop-ends-preserved : goal.loop-ends-preserved
+loop-ends-preserved c =
     let s = c.requires.sound in
     let e = c.in_ok-start.ensures in
-    let long : length c.args.arcs.now ≤ length c.args.flow.now = omega (arith, c.requires.proper.few_arcs, c.requires.flow) in
-    explored_gate _ _ _ _ s.0 s.1 s.2 long _ _ _ c.loop-seen.invariant (omega arith) c.loop-seen-test.true _ c.in_ok-start.c _ e.2
-    (omega (arith, c.if-arcs-c-lt-BOTH.false, (c.requires.proper.joins c.in_ok-start.c e.2.is).few)) c.see.ensures e.0 e.1
+    let long : length c.args.graph.now.arcs.now ≤ length c.args.flow.now = omega (arith, c.args.graph.now.proper.few_arcs, c.told-flow) in
+    explored_gate _ _ _ _ s.0 s.1 s.2 long _ _ _ c.loop-ends.invariant (omega arith) (unseen _ c.loop-ends-test.ensures) _ c.in_ok-start.c _ e.2
+    (omega (arith, c.if-arc-lt-BOTH.false, (c.args.graph.now.proper.joins c.in_ok-start.c e.2.is).few)) c.see.ensures e.0 e.1

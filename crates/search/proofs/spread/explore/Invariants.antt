@@ -2,8 +2,8 @@ use Rattle.std.proofs.Common.{◌+◌, ◌-◌}
 use Rattle.search.proofs.Explores.{Explored}
 use Rattle.search.proofs.spread.explore.Given as goal
 
-abbrev pub invariant-loop-seen : goal.invariant-loop-seen
-invariant-loop-seen l = Explored l.arcs l.flow l.from l.to l.seen l.done l.held
+abbrev pub invariant-loop-ends : goal.invariant-loop-ends
+invariant-loop-ends l = Explored l.graph.arcs.now l.flow l.ends.from l.ends.to l.seen l.done l.held
 
-abbrev pub decreases-loop-seen : goal.decreases-loop-seen
-decreases-loop-seen l = 256 - (l.seen.count + l.done)
+abbrev pub decreases-loop-ends : goal.decreases-loop-ends
+decreases-loop-ends l = 256 - (l.seen.count + l.done)

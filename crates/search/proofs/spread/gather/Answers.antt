@@ -1,31 +1,24 @@
 use Rattle.std.proofs.Common.{◌<◌, ◌≤◌, length, arith}
-use Rattle.search.proofs.Rolled.{on_roll}
-use Rattle.search.proofs.Explores.{begun_new, begun_scan, to_do}
+use Rattle.search.proofs.Rolled.{unseen, on_roll}
+use Rattle.search.proofs.Explores.{begun_scan, to_do}
 use Rattle.search.proofs.spread.gather.Goals as goal
-use Rattle.search.proofs.spread.gather.Goals.{In-loop-seen}
-
-pub loop-seen-init : goal.loop-seen-init
-loop-seen-init c =
-    let s = c.new-seen.ensures in
-    begun_new _ _ _ _ _ c.requires.to s.count s.rank s.via s.order
+use Rattle.search.proofs.spread.gather.Goals.{In-loop-ends}
 
 -- something is carried, so there is a place to go on from
-left : (c : In-loop-seen) → c.loop-seen.done < c.loop-seen.seen.count
+left : (c : In-loop-ends) → c.loop-ends.done < c.loop-ends.seen.count
 left c =
-    let long : length c.args.arcs.now ≤ length c.args.flow.now = omega (arith, c.requires.proper.few_arcs, c.requires.flow) in
-    to_do _ _ c.requires.carries.0 _ _ _ _ long c.requires.carries.1 c.loop-seen.invariant c.loop-seen-test.true
+    let long : length c.args.graph.now.arcs.now ≤ length c.args.flow.now = omega (arith, c.args.graph.now.proper.few_arcs, c.told-flow) in
+    to_do _ _ c.requires.carries.0 _ _ _ _ long c.requires.carries.1 c.loop-ends.invariant (unseen _ c.loop-ends-test.ensures)
 
 pub bounds-seen-done : goal.bounds-seen-done
-bounds-seen-done c = omega (arith, left c, c.loop-seen.invariant.roll.counted)
+bounds-seen-done c = omega (arith, left c, c.loop-ends.seen.roll.counted)
 
 pub go_back-requires : goal.go_back-requires
-go_back-requires c =
-    let r = on_roll _ _ c.loop-seen.invariant.roll (left (goal.at.go_back-requires c).In-loop-seen) in
-    record { proper = c.requires.proper; into = c.requires.into; flow = c.requires.flow; roll = c.loop-seen.invariant.roll; place = r.1; seen = r.0 }
+go_back-requires c = on_roll c.loop-ends.seen _ (left (goal.at.go_back-requires c).In-loop-ends)
 
-pub loop-seen-smaller : goal.loop-seen-smaller
-loop-seen-smaller c = omega (arith, left (goal.at.loop-seen-smaller c).In-loop-seen, c.loop-seen.invariant.roll.counted)
+pub loop-ends-smaller : goal.loop-ends-smaller
+loop-ends-smaller c = omega (arith, left (goal.at.loop-ends-smaller c).In-loop-ends, c.loop-ends.seen.roll.counted)
 
-pub loop-seen-preserved : goal.loop-seen-preserved
-loop-seen-preserved c =
-    begun_scan _ _ _ _ _ _ _ (λ d h. h) c.go_back.ensures.more _ c.loop-seen.invariant (left (goal.at.loop-seen-preserved c).In-loop-seen) c.go_back.ensures.spent
+pub loop-ends-preserved : goal.loop-ends-preserved
+loop-ends-preserved c =
+    begun_scan _ _ _ _ _ _ _ (λ d h. h) c.go_back.ensures.more _ c.loop-ends.invariant (left (goal.at.loop-ends-preserved c).In-loop-ends) c.go_back.ensures.spent

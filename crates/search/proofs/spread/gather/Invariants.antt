@@ -3,8 +3,8 @@ use Rattle.search.specs.Trees.{Never}
 use Rattle.search.proofs.Explores.{Begun}
 use Rattle.search.proofs.spread.gather.Given as goal
 
-abbrev pub invariant-loop-seen : goal.invariant-loop-seen
-invariant-loop-seen l = Begun l.arcs l.flow Never l.to l.seen l.done
+abbrev pub invariant-loop-ends : goal.invariant-loop-ends
+invariant-loop-ends l = Begun l.graph.arcs.now l.flow Never l.ends.to l.seen l.done
 
-abbrev pub decreases-loop-seen : goal.decreases-loop-seen
-decreases-loop-seen l = 128 - l.done
+abbrev pub decreases-loop-ends : goal.decreases-loop-ends
+decreases-loop-ends l = 128 - l.done

@@ -1,10 +1,20 @@
-use Rattle.search.proofs.Spreads.{back_past, back_by}
+use Rattle.std.proofs.Common.{◌∙◌, ap}
+use Rattle.search.specs.Remaining.{arcs_left}
+use Rattle.search.proofs.Spreads.{spread_none, spread_at, spread_by, by_back}
+use Rattle.search.proofs.Rolled.{stays, is_place}
 use Rattle.search.proofs.spread.Seen.go_back.Goals as goal
-use Rattle.search.proofs.spread.Seen.go_back.Goals.{then-flow-c-gt0, else-flow-c-gt0}
 
-pub loop-c-preserved : goal.loop-c-preserved
-loop-c-preserved c =
-    elim c.if-flow-c-gt0.branch [
-      | then-flow-c-gt0 w ↦ rw w.self-is (back_by _ _ _ _ c.requires.into _ _ _ _ _ c.loop-c-test.true c.requires.seen c.loop-c.invariant w.if-flow-c-gt0.true w.see.ensures)
-      | else-flow-c-gt0 w ↦ rw w.self-is (back_past _ _ _ _ c.requires.into _ _ _ _ c.loop-c-test.true c.loop-c.invariant w.if-flow-c-gt0.false)
-    ]
+pub loop-c-init : goal.loop-c-init
+loop-c-init c =
+    spread_none _ _ _ _ _ _ _ _ _ (ap arcs_left c.into_iter-c-iterator.ensures.into_iter_gives ∙ c.entering-c-items.ensures)
+
+pub loop-c-preserved-then-flow-c-gt0 : goal.loop-c-preserved-then-flow-c-gt0
+loop-c-preserved-then-flow-c-gt0 c =
+    let old = c.loop-c.invariant in
+    let turn = c.in-Some.ensures.steps in
+    let at = spread_at _ _ _ _ _ _ _ _ _ _ _ turn _ old in
+    let seen = stays _ _ _ _ _ old.more _ c.requires in
+    spread_by _ _ _ _ _ _ _ _ _ _ _ turn _ old _ (by_back _ _ _ _ _ _ seen at c.if-flow-c-gt0.true c.see.ensures) c.see.ensures.seen
+
+pub entering-c-items-requires : goal.entering-c-items-requires
+entering-c-items-requires c = is_place c.args.self.now _ c.requires

@@ -1,9 +1,11 @@
-use Rattle.std.proofs.Common.{◌-◌, length}
-use Rattle.search.proofs.Spreads.{BackTo}
+use Rattle.std.proofs.Common.{◌<◌, get_or}
+use Rattle.search.specs.declared.graph.By.TheVariants.{End}
+use Rattle.search.specs.Remaining.{arcs_left}
+use Rattle.search.specs.Trees.{Never}
+use Rattle.search.proofs.Spreads.{SpreadTo}
 use Rattle.search.proofs.spread.Seen.go_back.Given as goal
 
 abbrev pub invariant-loop-c : goal.invariant-loop-c
-invariant-loop-c l = BackTo l.arcs l.flow l.initial.self l.self l.place l.c
-
-abbrev pub decreases-loop-c : goal.decreases-loop-c
-decreases-loop-c l = length l.arcs - l.c
+invariant-loop-c l =
+    let g = l.graph.arcs.now in
+    SpreadTo g l.flow Never End (λ x. x.from) (λ c. 0 < get_or l.flow c 0) l.initial.self l.self l.place (arcs_left l.c-iterator)

@@ -1,19 +1,36 @@
-use Rattle.std.proofs.Common.{arith}
+use Rattle.std.proofs.Common.{◌∙◌, ap, arith}
+use Rattle.search.specs.Remaining.{arcs_left}
 use Rattle.search.specs.Rolls.{Unused}
-use Rattle.search.proofs.Spreads.{forth_past, forth_by}
+use Rattle.search.proofs.Spreads.{spread_none, spread_at, spread_past, spread_by, by_forth, unused}
+use Rattle.search.proofs.Rolled.{stays, is_place}
 use Rattle.search.proofs.spread.Seen.go_forth.Goals as goal
-use Rattle.search.proofs.spread.Seen.go_forth.Goals.{then-arcs-c-gt0+then-flow-c-eq0, else-arcs-c-gt0, else-arcs-c-gt0-via-then-arcs-c-gt0+else-flow-c-eq0, else-arcs-c-gt0-via-else-arcs-c-gt0}
+use Rattle.search.proofs.spread.Seen.go_forth.Goals.{else-arc-gt0-via-then-arc-gt0+else-flow-c-eq0, else-arc-gt0-via-else-arc-gt0}
+
+pub loop-c-init : goal.loop-c-init
+loop-c-init c =
+    spread_none _ _ _ _ _ _ _ _ _ (ap arcs_left c.into_iter-c-iterator.ensures.into_iter_gives ∙ c.leaving-c-items.ensures)
+
+pub loop-c-preserved-then-flow-c-eq0 : goal.loop-c-preserved-then-flow-c-eq0
+loop-c-preserved-then-flow-c-eq0 c =
+    let old = c.loop-c.invariant in
+    let turn = c.in-Some.ensures.steps in
+    let at = spread_at _ _ _ _ _ _ _ _ _ _ _ turn _ old in
+    let u = unused _ _ _ _ _ at c.if-arc-gt0.true c.if-flow-c-eq0.true in
+    let seen = stays _ _ _ _ _ old.more _ c.requires in
+    spread_by _ _ _ _ _ _ _ _ _ _ _ turn _ old _ (by_forth _ _ _ _ _ _ seen at u c.see.ensures) c.see.ensures.seen
 
 pub loop-c-preserved : goal.loop-c-preserved
 loop-c-preserved c =
-    elim c.if-arcs-c-gt0.branch [
-      | then-arcs-c-gt0+then-flow-c-eq0 w ↦ rw w.self-is (forth_by _ _ _ _ c.requires.out _ _ _ _ _ c.loop-c-test.true c.requires.seen c.loop-c.invariant (record { usable = w.if-arcs-c-gt0.true; idle = w.if-flow-c-eq0.true }) w.see.ensures)
-      | else-arcs-c-gt0 w ↦
-          let not : Unused c.args.arcs.now c.args.flow.now c.loop-c.c → ⊥ =
-          λ u.
-          elim w.else-arcs-c-gt0.branch [
-            | else-arcs-c-gt0-via-then-arcs-c-gt0+else-flow-c-eq0 w' ↦ w'.if-flow-c-eq0.false u.idle
-            | else-arcs-c-gt0-via-else-arcs-c-gt0 w' ↦ omega (arith, w'.if-arcs-c-gt0.false, u.usable)
-          ] in
-          rw w.self-is (forth_past _ _ _ _ c.requires.out _ _ _ _ c.loop-c-test.true c.loop-c.invariant not)
-    ]
+    let old = c.loop-c.invariant in
+    let turn = c.in-Some.ensures.steps in
+    let lanes = ap (λ a. a.lanes) (spread_at _ _ _ _ _ _ _ _ _ _ _ turn _ old).same in
+    let not : Unused c.args.graph.now.arcs.now c.args.flow.now c.in-Some.c → ⊥ =
+    λ u.
+    elim c.else-arc-gt0.branch [
+      | else-arc-gt0-via-then-arc-gt0+else-flow-c-eq0 w ↦ w.if-flow-c-eq0.false u.idle
+      | else-arc-gt0-via-else-arc-gt0 w ↦ omega (arith, w.if-arc-gt0.false, u.usable, lanes)
+    ] in
+    spread_past _ _ _ _ _ _ _ _ _ _ _ turn _ old not
+
+pub leaving-c-items-requires : goal.leaving-c-items-requires
+leaving-c-items-requires c = is_place c.args.self.now _ c.requires
