@@ -1,6 +1,8 @@
 -- What a register that was loaded holds.
-use Rattle.std.proofs.Common.{◌≡◌, ℕ, ◌+◌, ◌*◌, ◌<◌, List, [], ◌∷◌, get_or, sym, refl, ap, ◌∙◌, arith}
+use Rattle.std.proofs.Common.{◌≡◌, ℕ, ◌+◌, ◌*◌, ◌<◌, List, [], ◌∷◌, get_or, take, drop, sym, refl, ap, ◌∙◌, arith}
 use Rattle.std.proofs.lemmas.List.FromFn.{get_or-map-range_with_len}
+use Rattle.std.proofs.lemmas.List.{get_or-take, get_or-drop}
+use Rattle.image_format.specs.Image.{at16}
 use Rattle.image.specs.declared.layout.Layout.{Layout}
 use Rattle.image.specs.Held.{Held, Loaded, Named, image_held, name_count}
 use Rattle.image.specs.Layout.{name_from, place_offset, names_in, circuit_from, circuits_in, network_in, Complete}
@@ -37,3 +39,10 @@ held_named bytes l number at name h k e f = record {
   there = omega (arith, name_count bytes l.places);
   is = f ∙ ap (name_from bytes) e ∙ sym (name_read bytes l.places number k);
 }
+
+-- the figure of two bytes that were read at an offset
+pub two_read : (bytes two : List ℕ) (at : ℕ) → two ≡ take 2 (drop at bytes) → get_or two 0 0 * 256 + get_or two 1 0 ≡ at16 bytes at
+two_read bytes two at e =
+    let high : get_or two 0 0 ≡ get_or bytes at 0 = ap (λ z. get_or z 0 0) e ∙ get_or-take 2 (drop at bytes) 0 0 (omega arith) ∙ get_or-drop at bytes 0 0 ∙ ap (λ z. get_or bytes z 0) (omega arith) in
+    let low : get_or two 1 0 ≡ get_or bytes (at + 1) 0 = ap (λ z. get_or z 1 0) e ∙ get_or-take 2 (drop at bytes) 1 0 (omega arith) ∙ get_or-drop at bytes 1 0 in
+    cc

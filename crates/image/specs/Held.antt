@@ -1,6 +1,7 @@
 -- What an image register keeps, and what its load comes to. Assumes nothing.
 use Rattle.std.specs.Prelude.{◌≡◌, ℕ, ◌+◌, ◌*◌, ◌<◌, ◌≤◌, List, [], ◌∷◌, length, slice_index_or}
 use Rattle.std.proofs.Common.{subst}
+use Rattle.std.proofs.Props.{props}
 use mathlib.Core.List.{is_set}
 use Rattle.std.proofs.Math.Logic.{∥∥₁_elim}
 use mathlib.Core.HLevel.{Unit-prop, ¬_prop}
@@ -12,7 +13,7 @@ use Rattle.network.specs.declared.register.Circuit.{Circuit}
 use Rattle.network.specs.Network.{Network, Sound, Proper, circuit, no_circuit}
 use Rattle.network.specs.Routes.{Each, each_at}
 use Rattle.image_format.specs.Image.{Name, Different, Records, Image}
-use Rattle.image.specs.Layout.{name_from, place_offset, names_in, circuit_from, circuits_in, network_in, end_of, ImageOf}
+use Rattle.image.specs.Layout.{name_from, place_offset, names_in, circuit_from, circuits_in, network_in, end_of, ImageOf, Scanned}
 
 -- the image that a register holds is that of its places and circuits, which stand as the layout says
 abbrev pub Held : List ℕ → Layout → Type 0
@@ -69,6 +70,10 @@ image_prop bytes names circuits p q = λ i. record {
   records = records_prop names circuits p.records q.records i;
   written = is_set ℕ_set _ _ p.written q.written i;
 }
+
+-- and a load has come so far in one way at most
+pub scanned_prop : (bytes : List ℕ) (l : Layout) → IsProp (Scanned bytes l)
+scanned_prop bytes l = Prim.hlevel (props, records_prop)
 
 pub image_held : (bytes : List ℕ) (l : Layout) → Held bytes l → ImageOf bytes l
 image_held bytes l h = ∥∥₁_elim h.4 (image_prop bytes (names_in bytes l.places) (circuits_in bytes l.first l.circuits)) (λ i. i)

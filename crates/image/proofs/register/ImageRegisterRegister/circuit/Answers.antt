@@ -10,4 +10,4 @@ pub returns : goal.returns
 returns c =
     let s = c.args.self.now.image.now in
     let l = c.args.self.now.layout in
-    (omega (arith, circuit_count s l.first l.circuits), c.read_circuit.ensures.is ∙ sym (circuit_read s l.first l.circuits c.args.number c.if-number-self.false))
+    (omega (arith, circuit_count s l.first l.circuits), c.read_circuit.ensures ∙ sym (circuit_read s l.first l.circuits c.args.number c.if-number-self.false))

@@ -1,0 +1,32 @@
+use Rattle.std.proofs.Common.{◌≡◌, ℕ, List, get_or, arith, rules, refl, sym, ◌∙◌, ap}
+use Rattle.std.proofs.lemmas.Bool.{false≢true}
+use Rattle.std.proofs.lemmas.List.{ext_get_or}
+use Rattle.std.proofs.lemmas.Slice.Zip.{zip_end}
+use Rattle.image.specs.Layout.{place_offset, name_from}
+use Rattle.image.proofs.Offsets.{room, repeats_when, repeats_where}
+use Rattle.image.proofs.layout.Scan.repeats.Goals as goal
+
+pub read_name-other-requires : goal.read_name-other-requires
+read_name-other-requires c =
+    let s = c.args.self.now in
+    omega (arith, room s.image.now c.earlier.next c.earlier.counter s.layout.places s.layout.first c.earlier.invariant.0 c.earlier-test.true s.so_far.first_is, s.so_far.within)
+
+pub after_place-next-requires : goal.after_place-next-requires
+after_place-next-requires c =
+    let s = c.args.self.now in
+    omega (arith, room s.image.now c.earlier.next c.earlier.counter s.layout.places s.layout.first c.earlier.invariant.0 c.earlier-test.true s.so_far.first_is, s.so_far.within)
+
+pub returns : goal.returns
+returns c =
+    let s = c.args.self.now in
+    ((λ h. absurd (false≢true h)), λ r. absurd (repeats_where (λ i. name_from s.image.now (place_offset s.image.now i)) c.args.name.now 0 s.layout.places (λ j h k. c.earlier.invariant.1 j (omega arith)) r))
+
+pub returns-in-earlier : goal.returns-in-earlier
+returns-in-earlier c =
+    let s = c.args.self.now in
+    let other : List ℕ = c.read_name-other.result.now in
+    let left : c.into_iter-a-iterator.result.a.rest.now ≡ other = search rules in
+    let right : c.into_iter-a-iterator.result.b.rest.now ≡ c.args.name.now = search rules in
+    let all = zip_end other c.args.name.now c.loop-a.yielded c.into_iter-a-iterator.result c.loop-a.a-iterator c.next.new.self c.next.result left right c.loop-a.yielded_by c.in-None.is c.next.ensures.steps in
+    let same : other ≡ c.args.name.now = ext_get_or 0 other c.args.name.now c.if-other-name.false (λ k h. ap (λ z. get_or z k 0) (sym left) ∙ c.loop-a.invariant k (omega arith)) in
+    ((λ _. repeats_when (λ i. name_from s.image.now (place_offset s.image.now i)) c.args.name.now 0 s.layout.places c.earlier.counter (omega arith) (omega arith) (sym same ∙ c.read_name-other.ensures ∙ ap (name_from s.image.now) c.earlier.invariant.0)), λ _. refl)
