@@ -1,5 +1,5 @@
 -- What a register that was loaded holds.
-use Rattle.std.proofs.Common.{◌≡◌, ℕ, ◌+◌, ◌*◌, ◌<◌, List, [], ◌∷◌, get_or, take, drop, sym, refl, ap, ◌∙◌, arith}
+use Rattle.std.proofs.Common.{◌≡◌, ℕ, ◌+◌, ◌*◌, ◌<◌, List, [], get_or, take, drop, sym, ap, ◌∙◌, arith}
 use Rattle.std.proofs.lemmas.List.FromFn.{get_or-map-range_with_len}
 use Rattle.std.proofs.lemmas.List.{get_or-take, get_or-drop}
 use Rattle.image_format.specs.Image.{at16}
@@ -7,14 +7,6 @@ use Rattle.image.specs.declared.layout.Layout.{Layout}
 use Rattle.image.specs.Held.{Held, Loaded, Named, image_held, name_count}
 use Rattle.image.specs.Layout.{name_from, place_offset, names_in, circuit_from, circuits_in, network_in, Complete}
 use Rattle.network.specs.Network.{Network, no_circuit}
-use Rattle.image_format.proofs.Steps.{at_start}
-
--- an end record alone
-pub nothing_held : Held (69 ∷ 78 ∷ 0 ∷ 0 ∷ []) (record { places = 0; circuits = 0; first = 0 })
-nothing_held = (refl, omega arith, omega arith, refl, ∣ record { records = (at_start []).records; written = refl } ∣₁)
-
-pub complete_held : (bytes : List ℕ) (l : Layout) → Complete bytes l → Held bytes l
-complete_held bytes l c = (c.ends, c.few_places, c.few_circuits, c.first_is, ∣ c.image ∣₁)
 
 pub name_read : (bytes : List ℕ) (n i : ℕ) → i < n → get_or (names_in bytes n) i [] ≡ name_from bytes (place_offset bytes i)
 name_read bytes n i h = get_or-map-range_with_len (λ k. name_from bytes (place_offset bytes k)) 0 n i i [] h (omega arith)

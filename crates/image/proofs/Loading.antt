@@ -1,5 +1,5 @@
 -- The loader's steps and refusals, as the code meets them: by what stands after the records so far.
-use Rattle.std.proofs.Common.{◌≡◌, ℕ, ◌+◌, ◌*◌, ◌<◌, ◌≤◌, List, [], ◌∷◌, ◌++◌, length, get_or, take, drop, sym, refl, ap, ◌∙◌, subst, arith, length-append}
+use Rattle.std.proofs.Common.{◌≡◌, ℕ, ◌+◌, ◌*◌, ◌<◌, ◌≤◌, List, [], ◌∷◌, ◌++◌, length, get_or, slice_range, take, drop, sym, refl, ap, ◌∙◌, subst, inl, inr, arith, length-append}
 use Rattle.std.proofs.lemmas.List.FromFn.{map-range_with_len_more}
 use Rattle.std.proofs.lemmas.List.{length-drop}
 use Rattle.image.specs.declared.layout.Layout.{Layout}
@@ -11,6 +11,7 @@ use Rattle.image_format.specs.Image.{at16, records_bytes, Repeats, Refused, told
 use Rattle.image.specs.Held.{name_count, circuit_count}
 use Rattle.image.specs.Layout.{name_from, after_place, place_offset, names_in, circuit_from, circuits_in, end_of, Scanned, Complete, MarkAt}
 use Rattle.network.specs.Network.{BadEnds, BadFigures}
+use Rattle.image.proofs.Holding.{two_read}
 use Rattle.image.proofs.Offsets.{offset_more}
 use Rattle.image_format.proofs.Steps as steps
 use Rattle.image_format.proofs.Views as views
@@ -81,20 +82,28 @@ scanned bytes l e a = record {
 }
 
 module _ (bytes : List ℕ) (l : Layout) (s : Scanned bytes l) (rest : List ℕ) (is : rest ≡ drop (end_of l) bytes) where
-  -- it is one place more
-  pub place_taken : (size first : ℕ) (read : List ℕ) → MarkAt bytes (end_of l) mark.Place → size ≡ get_or rest 2 0 → read ≡ take size (drop 3 rest) → first ≡ end_of l + 3 + size → l.circuits ≤ 0 → l.places < 128 → 1 ≤ size → size ≤ 16 → 3 + size ≤ length rest → (Repeats read (Names bytes l) → ⊥) → Scanned bytes (record { places = l.places + 1; circuits = 0; first = first })
-  place_taken size first read m has called e none few some most whole new =
-      let is_read : take (get_or rest 2 0) (drop 3 rest) ≡ read = ap (λ z. take z (drop 3 rest)) (sym has) ∙ sym called in
-      let p : Passed (PlaceChecks bytes l l.places l.circuits rest) = ((λ h. omega arith), ((λ h. omega arith), ((λ h. omega arith), ((λ h. h (omega arith, omega arith)), ((λ h. omega arith), ((λ h. new (subst (λ z. Repeats z (Names bytes l)) is_read h)), tt)))))) in
-      let name : List ℕ = steps.told_name bytes (Names bytes l) (Circuits bytes l) (end_of l) in
-      let a = steps.place_passed bytes (Names bytes l) (Circuits bytes l) (end_of l) s.here m.stands (by_numbers bytes l (λ x y z. Passed (PlaceChecks bytes l x y z)) rest is p) in
-      let there_too : get_or (drop (end_of l) bytes) 2 0 ≡ size = ap (λ z. get_or z 2 0) (sym is) ∙ sym has in
-      let begins : end_of l ≡ place_offset bytes l.places = omega (arith, s.first_is) in
-      let there : name ≡ name_from bytes (place_offset bytes l.places) = views.name_here bytes (Names bytes l) (Circuits bytes l) (end_of l) ∙ ap (name_from bytes) begins in
-      let names : Names bytes l ++ name ∷ [] ≡ names_in bytes (l.places + 1) = ap (λ z. Names bytes l ++ z ∷ []) there ∙ sym (map-range_with_len_more (λ i. name_from bytes (place_offset bytes i)) 0 l.places l.places (omega arith)) in
-      let ends : first ≡ after_place bytes (end_of l) = omega (arith, e, there_too, views.size_here bytes (Names bytes l) (Circuits bytes l) (end_of l)) in
-      let on : first ≡ place_offset bytes (l.places + 1) = ends ∙ ap (after_place bytes) begins ∙ sym (offset_more bytes l.places) in
-      scanned bytes (record { places = l.places + 1; circuits = 0; first = first }) on (at_as bytes (Names bytes l ++ name ∷ []) (names_in bytes (l.places + 1)) [] [] (end_of l + (3 + get_or (drop (end_of l) bytes) 2 0)) (first + 14 * 0) names refl (omega arith) a)
+  -- a place of which all but its name is known to pass
+  module _ (size : ℕ) (read : List ℕ) (m : MarkAt bytes (end_of l) mark.Place) (has : size ≡ get_or rest 2 0) (called : read ≡ slice_range rest 3 (3 + size)) (none : l.circuits ≤ 0) (few : l.places < 128) (some : 1 ≤ size) (most : size ≤ 16) (whole : 3 + size ≤ length rest) where
+    is_read : take (get_or rest 2 0) (drop 3 rest) ≡ read
+    is_read = ap (λ z. take z (drop 3 rest)) (omega arith) ∙ sym called
+
+    pub place_twice : Repeats read (Names bytes l) → Refused bytes 3 (end_of l)
+    place_twice r =
+        place_refused bytes l s rest is 3 m (inr ((λ h. omega arith), inr ((λ h. omega arith), inr ((λ h. omega arith), inr ((λ h. h (omega arith, omega arith)), inr ((λ h. omega arith), inl (refl, subst (λ z. Repeats z (Names bytes l)) (sym is_read) r)))))))
+
+    -- it is one place more
+    pub place_taken : (first : ℕ) → first ≡ end_of l + 3 + size → (Repeats read (Names bytes l) → ⊥) → Scanned bytes (record { places = l.places + 1; circuits = 0; first = first })
+    place_taken first e new =
+        let p : Passed (PlaceChecks bytes l l.places l.circuits rest) = ((λ h. omega arith), ((λ h. omega arith), ((λ h. omega arith), ((λ h. h (omega arith, omega arith)), ((λ h. omega arith), ((λ h. new (subst (λ z. Repeats z (Names bytes l)) is_read h)), tt)))))) in
+        let name : List ℕ = steps.told_name bytes (Names bytes l) (Circuits bytes l) (end_of l) in
+        let a = steps.place_passed bytes (Names bytes l) (Circuits bytes l) (end_of l) s.here m.stands (by_numbers bytes l (λ x y z. Passed (PlaceChecks bytes l x y z)) rest is p) in
+        let there_too : get_or (drop (end_of l) bytes) 2 0 ≡ size = ap (λ z. get_or z 2 0) (sym is) ∙ sym has in
+        let begins : end_of l ≡ place_offset bytes l.places = omega (arith, s.first_is) in
+        let there : name ≡ name_from bytes (place_offset bytes l.places) = views.name_here bytes (Names bytes l) (Circuits bytes l) (end_of l) ∙ ap (name_from bytes) begins in
+        let names : Names bytes l ++ name ∷ [] ≡ names_in bytes (l.places + 1) = ap (λ z. Names bytes l ++ z ∷ []) there ∙ sym (map-range_with_len_more (λ i. name_from bytes (place_offset bytes i)) 0 l.places l.places (omega arith)) in
+        let ends : first ≡ after_place bytes (end_of l) = omega (arith, e, there_too, views.size_here bytes (Names bytes l) (Circuits bytes l) (end_of l)) in
+        let on : first ≡ place_offset bytes (l.places + 1) = ends ∙ ap (after_place bytes) begins ∙ sym (offset_more bytes l.places) in
+        scanned bytes (record { places = l.places + 1; circuits = 0; first = first }) on (at_as bytes (Names bytes l ++ name ∷ []) (names_in bytes (l.places + 1)) [] [] (end_of l + (3 + get_or (drop (end_of l) bytes) 2 0)) (first + 14 * 0) names refl (omega arith) a)
 
   -- it is one circuit more
   pub circuit_taken : (c : Circuit) → MarkAt bytes (end_of l) mark.Circuit → ((j : ℕ) → get_or bytes j 0 < 256) → c ≡ circuit_from rest 0 → Passed (CircuitChecks bytes l l.places l.circuits rest c) → Scanned bytes (record { places = l.places; circuits = l.circuits + 1; first = l.first })
@@ -106,11 +115,11 @@ module _ (bytes : List ℕ) (l : Layout) (s : Scanned bytes l) (rest : List ℕ)
       scanned bytes (record { places = l.places; circuits = l.circuits + 1; first = l.first }) s.first_is (at_as bytes (Names bytes l) (Names bytes l) (Circuits bytes l ++ c ∷ []) (circuits_in bytes l.first (l.circuits + 1)) (end_of l + 14) (l.first + 14 * (l.circuits + 1)) refl circuits (omega arith) a)
 
   -- it is an image
-  pub end_taken : MarkAt bytes (end_of l) mark.End → ((j : ℕ) → get_or bytes j 0 < 256) → at16 rest 2 ≡ l.places + l.circuits → length rest ≡ 4 → Complete bytes l
-  end_taken m fits count last = record {
+  pub end_taken : (count : ℕ) (two : List ℕ) → MarkAt bytes (end_of l) mark.End → ((j : ℕ) → get_or bytes j 0 < 256) → two ≡ take 2 (drop 2 rest) → count ≡ get_or two 0 0 * 256 + get_or two 1 0 → count ≡ l.places + l.circuits → length rest ≡ 4 → Complete bytes l
+  end_taken count two m fits read c e last = record {
     ends = omega (arith, s.within, ap length is, length-drop (end_of l) bytes);
     few_places = s.few_places;
     few_circuits = s.few_circuits;
     first_is = s.first_is;
-    image = steps.end_step bytes (Names bytes l) (Circuits bytes l) (end_of l) s.here (λ j _ _. fits j) m.stands (omega (arith, ap length is)) (ap (λ z. at16 z 2) (sym is) ∙ count ∙ omega (arith, name_count bytes l.places, circuit_count bytes l.first l.circuits));
+    image = steps.end_step bytes (Names bytes l) (Circuits bytes l) (end_of l) s.here (λ j _ _. fits j) m.stands (omega (arith, ap length is)) (ap (λ z. at16 z 2) (sym is) ∙ sym (two_read rest two 2 read) ∙ sym c ∙ e ∙ omega (arith, name_count bytes l.places, circuit_count bytes l.first l.circuits));
   }

@@ -1,5 +1,5 @@
 -- The records of an image by their number.
-use Rattle.std.proofs.Common.{◌≡◌, ℕ, ◌+◌, ◌-◌, ◌<◌, ◌≤◌, List, [], ◌∷◌, ◌++◌, map, length, get_or, sym, ap, ◌∙◌, append_assoc, arith, length-append}
+use Rattle.std.proofs.Common.{◌≡◌, ℕ, ◌+◌, ◌-◌, ◌*◌, ◌<◌, ◌≤◌, List, [], ◌∷◌, ◌++◌, map, length, get_or, take, drop, sym, ap, ◌∙◌, append_assoc, arith, length-append}
 use Rattle.std.proofs.lemmas.List.{length-map, get_or-map, get_or_append_left, get_or-append_right, get_or_at, drop_more, drop_all}
 use Rattle.image.specs.declared.layout.Layout.{Layout}
 use Rattle.network.specs.declared.register.Circuit.{Circuit}
@@ -9,7 +9,7 @@ use Rattle.image.specs.Layout.{name_from, place_offset, names_in, circuits_in, e
 use Rattle.network.specs.Network.{no_circuit}
 use Rattle.image.specs.Reading.{Told, place, circuit, end, all_told, told_after, Tells}
 use Rattle.image_format.proofs.Figures.{at16_after, two_of}
-use Rattle.image.proofs.Holding.{name_read}
+use Rattle.image.proofs.Holding.{name_read, two_read}
 
 module _ (bytes : List ℕ) (l : Layout) where
   abbrev Names : List (List ℕ)
@@ -66,9 +66,10 @@ module _ (bytes : List ℕ) (l : Layout) where
       let read : at16 (front ++ end_bytes n) (length front + 2) ≡ n = at16_after front (end_bytes n) 2 ∙ two_of n (omega (arith, h.1, h.2)) in
       ap (λ z. at16 bytes (z + 2)) at ∙ ap (λ z. at16 z (length front + 2)) i.written ∙ read ∙ sum
 
-  pub end_told : (k count : ℕ) → Held bytes l → k ≡ l.places + l.circuits → count ≡ at16 bytes (end_of l + 2) → told_after bytes l k ≡ end count ∷ told_after bytes l (k + 1)
-  end_told k count h e f =
+  pub end_told : (k count at : ℕ) (two : List ℕ) → Held bytes l → k ≡ l.places + l.circuits → at ≡ end_of l → two ≡ take 2 (drop (at + 2) bytes) → count ≡ get_or two 0 0 * 256 + get_or two 1 0 → told_after bytes l k ≡ end count ∷ told_after bytes l (k + 1)
+  end_told k count at two h e f g c =
       let joined = ap (λ z. get_or z k Last) (sym (append_assoc Places Links (Last ∷ []))) in
+      let read : count ≡ at16 bytes (end_of l + 2) = c ∙ two_read bytes two (at + 2) g ∙ ap (λ z. at16 bytes (z + 2)) f in
       let all : length Names + length Circuits ≡ count = omega (arith, name_count bytes l.places, circuit_count bytes l.first l.circuits, count_told h) in
       one_more k (end count) (omega arith) (joined ∙ get_or_at (Places ++ Links) Last [] Last k (omega (arith, length-append Places Links, place_count, link_count)) ∙ ap end all)
 

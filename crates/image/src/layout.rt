@@ -1,7 +1,7 @@
 // Where the records of an image stand: the places first, then the circuits, then the end.
 ghost use Rattle.std.specs.Prelude.{◌≡◌, ℕ, ◌+◌, ◌*◌, ◌^◌, ◌<◌, ◌≤◌, ◌↔◌, length, slice_index, take, drop, IsTrue, MatchResult, MatchOption};
 ghost use Rattle.image_format.specs.Image.{Repeats, Refused};
-ghost use Rattle.image.specs.Layout.{end_of, place_offset, after_place, name_from, names_in, Scanned, Complete, MarkAt};
+ghost use Rattle.image.specs.Layout.{end_of, names_in, Scanned, Complete, MarkAt, RefusedAfter};
 ghost use Rattle.image.specs.Held.{scanned_prop};
 ghost use Rattle.network.specs.Refusals.{number_of};
 
@@ -12,7 +12,7 @@ use network::{LoadRefusal, MOST_CIRCUITS, MOST_PLACES, Refusal};
 const LONGEST_NAME: usize = 16;
 
 // How many places and circuits an image has, and the offset of the first circuit.
-#[derive(Clone, Copy)]
+#[derive(Clone, Copy, Default)]
 pub(crate) struct Layout {
     pub places: u16,
     pub circuits: u16,
@@ -38,6 +38,7 @@ impl Layout {
 }
 
 // How far a load has come: the records of the layout are sound, and stand at the front of the image.
+// That bytes are below 256 is known of a parameter, and of a field only where it is said.
 #[derive(Clone, Copy)]
 struct Scan<'a> {
     image: &'a [u8],
@@ -56,7 +57,9 @@ impl<'a> Scan<'a> {
 
     // The mark of the next record.
     fn mark(&self) -> Result<Mark, Refusal>
-        ensures { MatchResult result (λ m. MarkAt self.now.image.now (end_of self.now.layout) m) (λ e. Refused self.now.image.now (number_of e) (end_of self.now.layout)) }
+        ensures { MatchResult result
+            (MarkAt self.now.image.now (end_of self.now.layout))
+            (RefusedAfter self.now.image.now self.now.layout) }
     {
         match self.rest() {
             [b'P', b'L', ..] => Ok(Mark::Place),
@@ -68,14 +71,15 @@ impl<'a> Scan<'a> {
     }
 
     // Whether one of the places so far has this name.
+    #[tactic(auto, using(crate::proofs::Offsets::within, crate::proofs::Offsets::repeats_when, crate::proofs::Offsets::repeats_where))]
     fn repeats(&self, name: &[u8]) -> bool
         ensures { IsTrue result ↔ Repeats name.now (names_in self.now.image.now self.now.layout.places) }
     {
         let mut next = 0;
-        // The customer's rules ask for these loops over places and name bytes, left by a label at the first repeat.
+        // These nested loops left by a label are asked for (docs/DECISIONS.md, "Language forms").
         'earlier: for _ in 0..self.layout.places {
-            let other = read_name(&self.image, next);
-            next = after_place(&self.image, next);
+            let other = read_name(self.image, next);
+            next = after_place(self.image, next);
             if other.len() != name.len() {
                 continue;
             }
@@ -90,10 +94,12 @@ impl<'a> Scan<'a> {
     }
 
     // One place more.
-    #[tactic(auto, using(crate::proofs::Loading::place_refused, crate::proofs::Loading::place_taken))]
+    #[tactic(auto, using(crate::proofs::Loading::place_refused, crate::proofs::Loading::place_twice))]
     fn place(&self) -> Result<Scan<'a>, Refusal>
         requires { MarkAt self.now.image.now (end_of self.now.layout) Mark.Place }
-        ensures { MatchResult result (λ s. (s.image ≡ self.now.image) × (end_of self.now.layout < end_of s.layout)) (λ e. Refused self.now.image.now (number_of e) (end_of self.now.layout)) }
+        ensures { MatchResult result
+            (λ s. (s.image ≡ self.now.image) × (end_of self.now.layout < end_of s.layout))
+            (RefusedAfter self.now.image.now self.now.layout) }
     {
         let rest = self.rest();
         if self.layout.circuits > 0 {
@@ -106,7 +112,7 @@ impl<'a> Scan<'a> {
             return Err(Refusal::Short);
         };
         let size = size as usize;
-        if size < 1 || size > LONGEST_NAME {
+        if !(1..=LONGEST_NAME).contains(&size) {
             return Err(Refusal::Name);
         }
         let Some(name) = rest.get(3..3 + size) else {
@@ -129,7 +135,9 @@ impl<'a> Scan<'a> {
     #[tactic(auto, using(crate::proofs::Loading::circuit_refused, crate::proofs::Loading::circuit_taken))]
     fn circuit(&self) -> Result<Scan<'a>, Refusal>
         requires { MarkAt self.now.image.now (end_of self.now.layout) Mark.Circuit }
-        ensures { MatchResult result (λ s. (s.image ≡ self.now.image) × (end_of self.now.layout < end_of s.layout)) (λ e. Refused self.now.image.now (number_of e) (end_of self.now.layout)) }
+        ensures { MatchResult result
+            (λ s. (s.image ≡ self.now.image) × (end_of self.now.layout < end_of s.layout))
+            (RefusedAfter self.now.image.now self.now.layout) }
     {
         let rest = self.rest();
         if self.layout.circuits >= MOST_CIRCUITS {
@@ -148,9 +156,8 @@ impl<'a> Scan<'a> {
         Ok(Scan {
             image: self.image,
             layout: Layout {
-                places: self.layout.places,
                 circuits: self.layout.circuits + 1,
-                first: self.layout.first,
+                ..self.layout
             },
         })
     }
@@ -159,7 +166,9 @@ impl<'a> Scan<'a> {
     #[tactic(auto, using(crate::proofs::Loading::end_refused, crate::proofs::Loading::end_taken))]
     fn check_end(&self) -> Result<(), Refusal>
         requires { MarkAt self.now.image.now (end_of self.now.layout) Mark.End }
-        ensures { MatchResult result (λ _. Complete self.now.image.now self.now.layout) (λ e. Refused self.now.image.now (number_of e) (end_of self.now.layout)) }
+        ensures { MatchResult result
+            (λ _. Complete self.now.image.now self.now.layout)
+            (RefusedAfter self.now.image.now self.now.layout) }
     {
         let rest = self.rest();
         if rest.len() < 4 {
@@ -174,7 +183,10 @@ impl<'a> Scan<'a> {
 
     // One record more, or nothing where the next is the end.
     fn step(&self) -> Result<Option<Scan<'a>>, Refusal>
-        ensures { MatchResult result (λ next. MatchOption next (Complete self.now.image.now self.now.layout) (λ s. (s.image ≡ self.now.image) × (end_of self.now.layout < end_of s.layout))) (λ e. Refused self.now.image.now (number_of e) (end_of self.now.layout)) }
+        ensures { MatchResult result
+            (λ next. MatchOption next (Complete self.now.image.now self.now.layout)
+            (λ s. (s.image ≡ self.now.image) × (end_of self.now.layout < end_of s.layout)))
+            (RefusedAfter self.now.image.now self.now.layout) }
     {
         match self.mark()? {
             Mark::Place => Ok(Some(self.place()?)),
@@ -189,15 +201,13 @@ impl<'a> Scan<'a> {
 
 // The layout of an image, or what is wrong with the first record that fails.
 pub(crate) fn read_layout(image: &[u8]) -> Result<Layout, LoadRefusal>
-    ensures { MatchResult result (λ l. Complete image.now l) (λ e. Refused image.now (number_of e.refusal) e.at) }
+    ensures { MatchResult result
+        (Complete image.now)
+        (λ e. Refused image.now (number_of e.refusal) e.at) }
 {
     let mut scan = Scan {
         image,
-        layout: Layout {
-            places: 0,
-            circuits: 0,
-            first: 0,
-        },
+        layout: Layout::default(),
     };
     loop {
         match scan.step() {

@@ -1,6 +1,6 @@
 // The records of an image, one after the other.
 ghost use Rattle.std.specs.Prelude.{◌≡◌, ◌+◌, ◌-◌};
-ghost use Rattle.image.specs.Reading.{Next, Gives, told_after};
+ghost use Rattle.image.specs.Reading.{Next, Gives};
 ghost use Rattle.std.specs.Iterator.{at_most};
 
 use super::figure::{after_place, bytes_at, read_name};
@@ -38,13 +38,16 @@ impl<'a> Records<'a> {
 }
 
 impl<'a> Iterator for Records<'a> {
+    ghost use Rattle.image.specs.Left.{left};
+
     type Item = Record<'a>;
 
     // It gives the records that are left, in their order, and stays over the same register.
-    ghost next_gives = { λ s r t. (t.register ≡ s.register) × Gives (told_after s.register.image.now s.register.layout s.given) r (told_after t.register.image.now t.register.layout t.given) };
+    ghost next_gives = { λ s r t. (t.register ≡ s.register) × Gives (left s) r (left t) };
 
     ghost remaining = { λ s. at_most (s.register.layout.places + s.register.layout.circuits + 1 - s.given) };
 
+    #[tactic(auto, using(crate::proofs::Offsets::within, crate::specs::Held::circuit_count, crate::proofs::Telling::place_told, crate::proofs::Telling::circuit_told, crate::proofs::Telling::end_told, crate::proofs::Telling::nothing_told))]
     fn next(&mut self) -> Option<Record<'a>> {
         let ImageRegister { image, layout } = self.register;
         let number = self.given;

@@ -1,7 +1,7 @@
 -- The steps of a load: from sound records and an offset to the next ones.
 use Rattle.std.proofs.Common.{◌≡◌, ℕ, zero, suc, ◌+◌, ◌<◌, ◌≤◌, ◌⊎◌, List, [], ◌∷◌, ◌++◌, map, length, get_or, take, drop, sym, refl, ap, ◌∙◌, subst, inl, inr, ⊎_elim, append_assoc, arith, length-append}
 use Rattle.std.proofs.lemmas.List.{append-nil, drop-drop, drop_more, drop_all, nil_from_length, take-append-drop, length-take-le, length-drop, length_push, get_or-drop}
-use Rattle.std.proofs.lemmas.Bool.{cases_lt, cases_eq}
+use Rattle.std.proofs.lemmas.Bool.{cases_eq}
 use Rattle.network.specs.Checks.{First, Passed}
 use Rattle.network.specs.declared.register.Circuit.{Circuit}
 use Rattle.network.specs.Network.{Sound}
@@ -18,9 +18,6 @@ Bytes xs = Each (λ b. b < 256) xs
 -- the bytes of a list from a place up to another: all that a load reads of them
 abbrev pub Below : List ℕ → ℕ → ℕ → Type 0
 Below xs from to = (j : ℕ) → from ≤ j → j < to → get_or xs j 0 < 256
-
-pub below_join : (xs : List ℕ) (a b c : ℕ) → Below xs a b → Below xs b c → Below xs a c
-below_join xs a b c p q j h k = ⊎_elim (λ l. p j h l) (λ l. q j l k) (cases_lt j b)
 
 pub below_drop : (xs : List ℕ) (offset a b : ℕ) → Below xs (offset + a) (offset + b) → Below (drop offset xs) a b
 below_drop xs offset a b p j h k = rw get_or-drop (p (offset + j) (omega arith) (omega arith))
@@ -206,9 +203,6 @@ module _ (bytes : List ℕ) (names : List (List ℕ)) (circuits : List Circuit) 
   -- each refusal
   pub no_mark : Here → length Rest < 2 → Refused bytes 1 offset
   no_mark s h = refuse 1 s (inl (inl (refl, h)))
-
-  pub unknown_mark : Here → 2 ≤ length Rest → ((Marked names circuits Rest PL ⊎ (Marked names circuits Rest CT ⊎ Marked names circuits Rest EN)) → ⊥) → Refused bytes 2 offset
-  unknown_mark s l h = refuse 2 s (inl (inr ((λ k. omega arith), inl (refl, h))))
 
   known : 2 ≤ length Rest → (Marked names circuits Rest PL ⊎ (Marked names circuits Rest CT ⊎ Marked names circuits Rest EN)) → Passed (mark_checks names circuits Rest)
   known l m = ((λ h. omega arith), ((λ h. h m), tt))

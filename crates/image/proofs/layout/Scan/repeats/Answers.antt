@@ -1,25 +1,9 @@
 use Rattle.std.proofs.Common.{◌≡◌, ℕ, List, get_or, arith, rules, refl, sym, ◌∙◌, ap}
-use Rattle.std.proofs.lemmas.Bool.{false≢true}
 use Rattle.std.proofs.lemmas.List.{ext_get_or}
 use Rattle.std.proofs.lemmas.Slice.Zip.{zip_end}
 use Rattle.image.specs.Layout.{place_offset, name_from}
-use Rattle.image.proofs.Offsets.{room, repeats_when, repeats_where}
+use Rattle.image.proofs.Offsets.{repeats_when}
 use Rattle.image.proofs.layout.Scan.repeats.Goals as goal
-
-pub read_name-other-requires : goal.read_name-other-requires
-read_name-other-requires c =
-    let s = c.args.self.now in
-    omega (arith, room s.image.now c.earlier.next c.earlier.counter s.layout.places s.layout.first c.earlier.invariant.0 c.earlier-test.true s.so_far.first_is, s.so_far.within)
-
-pub after_place-next-requires : goal.after_place-next-requires
-after_place-next-requires c =
-    let s = c.args.self.now in
-    omega (arith, room s.image.now c.earlier.next c.earlier.counter s.layout.places s.layout.first c.earlier.invariant.0 c.earlier-test.true s.so_far.first_is, s.so_far.within)
-
-pub returns : goal.returns
-returns c =
-    let s = c.args.self.now in
-    ((λ h. absurd (false≢true h)), λ r. absurd (repeats_where (λ i. name_from s.image.now (place_offset s.image.now i)) c.args.name.now 0 s.layout.places (λ j h k. c.earlier.invariant.1 j (omega arith)) r))
 
 pub returns-in-earlier : goal.returns-in-earlier
 returns-in-earlier c =
