@@ -79,3 +79,6 @@ module _ (bytes : List ℕ) (l : Layout) where
   -- a reader that has given nothing has all of them left
   pub all_left : Held bytes l → (told : List Told) → told ≡ told_after bytes l 0 → Tells bytes told
   all_left h told e = record { names = Names; circuits = Circuits; image = image_held bytes l h; is = e }
+
+-- what each record tells
+pub ruleset telling = (place_told, circuit_told, end_told, nothing_told)

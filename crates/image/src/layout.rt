@@ -94,7 +94,7 @@ impl<'a> Scan<'a> {
     }
 
     // One place more.
-    #[tactic(auto, using(crate::proofs::Loading::place_refused, crate::proofs::Loading::place_twice))]
+    #[tactic(auto, using(crate::proofs::Loading::place_refused))]
     fn place(&self) -> Result<Scan<'a>, Refusal>
         requires { MarkAt self.now.image.now (end_of self.now.layout) Mark.Place }
         ensures { MatchResult result
@@ -132,7 +132,7 @@ impl<'a> Scan<'a> {
     }
 
     // One circuit more.
-    #[tactic(auto, using(crate::proofs::Loading::circuit_refused, crate::proofs::Loading::circuit_taken))]
+    #[tactic(auto, using(crate::proofs::Loading::circuit_refused))]
     fn circuit(&self) -> Result<Scan<'a>, Refusal>
         requires { MarkAt self.now.image.now (end_of self.now.layout) Mark.Circuit }
         ensures { MatchResult result

@@ -47,7 +47,7 @@ impl<'a> Iterator for Records<'a> {
 
     ghost remaining = { λ s. at_most (s.register.layout.places + s.register.layout.circuits + 1 - s.given) };
 
-    #[tactic(auto, using(crate::proofs::Offsets::within, crate::specs::Held::circuit_count, crate::proofs::Telling::place_told, crate::proofs::Telling::circuit_told, crate::proofs::Telling::end_told, crate::proofs::Telling::nothing_told))]
+    #[tactic(auto, using(crate::proofs::Offsets::within, crate::specs::Held::circuit_count, crate::proofs::Telling::telling))]
     fn next(&mut self) -> Option<Record<'a>> {
         let ImageRegister { image, layout } = self.register;
         let number = self.given;
