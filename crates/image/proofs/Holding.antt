@@ -1,18 +1,12 @@
 -- What a register that was loaded holds.
-use Rattle.std.proofs.Common.{◌≡◌, ℕ, ◌+◌, ◌*◌, ◌<◌, List, [], ◌∷◌, get_or, sym, refl, ap, ◌∙◌, arith}
+use Rattle.std.proofs.Common.{◌≡◌, ℕ, ◌+◌, ◌*◌, ◌<◌, List, [], get_or, take, drop, sym, ap, ◌∙◌, arith}
 use Rattle.std.proofs.lemmas.List.FromFn.{get_or-map-range_with_len}
+use Rattle.std.proofs.lemmas.List.{get_or-take, get_or-drop}
+use Rattle.image_format.specs.Image.{at16}
 use Rattle.image.specs.declared.layout.Layout.{Layout}
 use Rattle.image.specs.Held.{Held, Loaded, Named, image_held, name_count}
 use Rattle.image.specs.Layout.{name_from, place_offset, names_in, circuit_from, circuits_in, network_in, Complete}
 use Rattle.network.specs.Network.{Network, no_circuit}
-use Rattle.image_format.proofs.Steps.{at_start}
-
--- an end record alone
-pub nothing_held : Held (69 ∷ 78 ∷ 0 ∷ 0 ∷ []) (record { places = 0; circuits = 0; first = 0 })
-nothing_held = (refl, omega arith, omega arith, refl, ∣ record { records = (at_start []).records; written = refl } ∣₁)
-
-pub complete_held : (bytes : List ℕ) (l : Layout) → Complete bytes l → Held bytes l
-complete_held bytes l c = (c.ends, c.few_places, c.few_circuits, c.first_is, ∣ c.image ∣₁)
 
 pub name_read : (bytes : List ℕ) (n i : ℕ) → i < n → get_or (names_in bytes n) i [] ≡ name_from bytes (place_offset bytes i)
 name_read bytes n i h = get_or-map-range_with_len (λ k. name_from bytes (place_offset bytes k)) 0 n i i [] h (omega arith)
@@ -37,3 +31,10 @@ held_named bytes l number at name h k e f = record {
   there = omega (arith, name_count bytes l.places);
   is = f ∙ ap (name_from bytes) e ∙ sym (name_read bytes l.places number k);
 }
+
+-- the figure of two bytes that were read at an offset
+pub two_read : (bytes two : List ℕ) (at : ℕ) → two ≡ take 2 (drop at bytes) → get_or two 0 0 * 256 + get_or two 1 0 ≡ at16 bytes at
+two_read bytes two at e =
+    let high : get_or two 0 0 ≡ get_or bytes at 0 = ap (λ z. get_or z 0 0) e ∙ get_or-take 2 (drop at bytes) 0 0 (omega arith) ∙ get_or-drop at bytes 0 0 ∙ ap (λ z. get_or bytes z 0) (omega arith) in
+    let low : get_or two 1 0 ≡ get_or bytes (at + 1) 0 = ap (λ z. get_or z 1 0) e ∙ get_or-take 2 (drop at bytes) 1 0 (omega arith) ∙ get_or-drop at bytes 1 0 in
+    cc

@@ -1,10 +1,10 @@
 -- Places one after the other, and lists made by number.
-use Rattle.std.proofs.Common.{◌≡◌, ℕ, zero, suc, ◌+◌, ◌<◌, ◌≤◌, List, map, length, get_or, take, drop, sym, ap, ◌∙◌, subst, inl, inr, ⊎_elim, add-one, arith}
+use Rattle.std.proofs.Common.{◌≡◌, ℕ, zero, suc, ◌+◌, ◌<◌, ◌≤◌, List, map, length, sym, ap, ◌∙◌, subst, inl, inr, ⊎_elim, add-one, arith}
 use Rattle.std.specs.List.{range_with_len}
-use Rattle.std.proofs.lemmas.List.{length-drop, length-take-le, get_or-take, get_or-drop, ext_get_or}
 use Rattle.std.proofs.lemmas.Bool.{cases_eq}
 use Rattle.image_format.specs.Image.{Repeats}
-use Rattle.image.specs.Layout.{after_place, place_offset}
+use Rattle.image.specs.declared.layout.Layout.{Layout}
+use Rattle.image.specs.Layout.{after_place, place_offset, end_of}
 
 -- one place on
 pub offset_more : (bytes : List ℕ) (i : ℕ) → place_offset bytes (i + 1) ≡ after_place bytes (place_offset bytes i)
@@ -26,25 +26,10 @@ repeats_where f name a zero no_one r = r
 repeats_where f name a (suc n) no_one (inl e) = no_one a (omega arith) (omega arith) e
 repeats_where f name a (suc n) no_one (inr r) = repeats_where f name (a + 1) n (λ j h k. no_one j (omega arith) (omega arith)) r
 
--- an earlier place ends before the one that begins after all of them
+-- an earlier place ends where the circuits begin, or before
 pub room : (bytes : List ℕ) (next i places at : ℕ) → next ≡ place_offset bytes i → i < places → at ≡ place_offset bytes places → after_place bytes next ≤ at
 room bytes next i places at e h f = subst (λ z. after_place bytes z ≤ at) (sym e) (omega (arith, offset_before bytes i places h, f))
 
--- two parts of a list are equal where they are as long and agree at each place
-part_size : (s : List ℕ) (a n : ℕ) → a + n ≤ length s → length (take n (drop a s)) ≡ n
-part_size s a n h = length-take-le n (drop a s) (simp length-drop (omega arith))
-
-part_read : (s : List ℕ) (a n k : ℕ) → k < n → get_or (take n (drop a s)) k 0 ≡ get_or s (a + k) 0
-part_read s a n k h = get_or-take n (drop a s) k 0 h ∙ get_or-drop a s k 0
-
-pub same_part : (s : List ℕ) (a b n : ℕ) → a + n ≤ length s → b + n ≤ length s → ((j : ℕ) → j < n → get_or s (a + j) 0 ≡ get_or s (b + j) 0) → take n (drop a s) ≡ take n (drop b s)
-same_part s a b n h k f =
-    let p = part_size s a n h in
-    let q = part_size s b n k in
-    ext_get_or 0 (take n (drop a s)) (take n (drop b s)) (p ∙ sym q) (λ i l. let m : i < n = omega arith in part_read s a n i m ∙ f i m ∙ sym (part_read s b n i m))
-
-pub same_size : (s : List ℕ) (a b n m : ℕ) → a + n ≤ length s → b + m ≤ length s → take n (drop a s) ≡ take m (drop b s) → n ≡ m
-same_size s a b n m h k e = sym (part_size s a n h) ∙ ap length e ∙ part_size s b m k
-
-pub same_read : (s : List ℕ) (a b n k : ℕ) → k < n → take n (drop a s) ≡ take n (drop b s) → get_or s (a + k) 0 ≡ get_or s (b + k) 0
-same_read s a b n k h e = sym (part_read s a n k h) ∙ ap (λ l. get_or l k 0) e ∙ part_read s b n k h
+-- and so within the image
+pub within : (bytes : List ℕ) (l : Layout) (next i : ℕ) → l.first ≡ place_offset bytes l.places → end_of l ≤ length bytes → next ≡ place_offset bytes i → i < l.places → after_place bytes next ≤ length bytes
+within bytes l next i f w e h = omega (arith, room bytes next i l.places l.first e h f)

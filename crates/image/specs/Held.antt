@@ -1,18 +1,17 @@
 -- What an image register keeps, and what its load comes to. Assumes nothing.
 use Rattle.std.specs.Prelude.{◌≡◌, ℕ, ◌+◌, ◌*◌, ◌<◌, ◌≤◌, List, [], ◌∷◌, length, slice_index_or}
 use Rattle.std.proofs.Common.{subst}
-use mathlib.Core.List.{is_set}
+use Rattle.std.proofs.Props.{props}
 use Rattle.std.proofs.Math.Logic.{∥∥₁_elim}
-use mathlib.Core.HLevel.{Unit-prop, ¬_prop}
-use Rattle.std.proofs.Math.Bridge.{le_prop}
-use Rattle.std.proofs.Math.Nat.{ℕ_set}
+use Rattle.std.specs.Coded.{×_prop, Unit-prop}
+use mathlib.Core.HLevel.{¬_prop}
 use Rattle.std.proofs.lemmas.List.FromFn.{length-map-range_with_len}
 use Rattle.image.specs.declared.layout.Layout.{Layout}
 use Rattle.network.specs.declared.register.Circuit.{Circuit}
 use Rattle.network.specs.Network.{Network, Sound, Proper, circuit, no_circuit}
 use Rattle.network.specs.Routes.{Each, each_at}
-use Rattle.image_format.specs.Image.{Name, Different, Records, Image}
-use Rattle.image.specs.Layout.{name_from, place_offset, names_in, circuit_from, circuits_in, network_in, end_of, ImageOf}
+use Rattle.image_format.specs.Image.{Different, Records, Image}
+use Rattle.image.specs.Layout.{name_from, place_offset, names_in, circuit_from, circuits_in, network_in, end_of, ImageOf, Scanned}
 
 -- the image that a register holds is that of its places and circuits, which stand as the layout says
 abbrev pub Held : List ℕ → Layout → Type 0
@@ -33,42 +32,23 @@ pub record Named (bytes : List ℕ) (number : ℕ) (name : List ℕ) : Type 0 wh
   pub there : number < length names
   pub is : name ≡ slice_index_or names number []
 
--- bytes are an image of given names and circuits in one way at most
-each_prop : {A : Type 0} (P : A → Type 0) → ((x : A) (p q : P x) → p ≡ q) → (xs : List A) (p q : Each P xs) → p ≡ q
-each_prop P f [] p q = Unit-prop p q
-each_prop P f (x ∷ xs) p q = λ i. (f x p.0 q.0 i, each_prop P f xs p.1 q.1 i)
+-- these facts hold in one way at most
+each_prop : {A : Type 0} (P : A → Type 0) → ((x : A) → IsProp (P x)) → (xs : List A) → IsProp (Each P xs)
+each_prop P f [] = Unit-prop
+each_prop P f (x ∷ xs) = ×_prop (f x) (each_prop P f xs)
 
-different_prop : (xs : List (List ℕ)) (p q : Different xs) → p ≡ q
-different_prop [] p q = Unit-prop p q
-different_prop (x ∷ xs) p q = λ i. (¬_prop p.0 q.0 i, different_prop xs p.1 q.1 i)
+different_prop : (xs : List (List ℕ)) → IsProp (Different xs)
+different_prop [] = Unit-prop
+different_prop (x ∷ xs) = ×_prop ¬_prop (different_prop xs)
 
-sound_prop : (n : ℕ) (c : Circuit) (p q : Sound n c) → p ≡ q
-sound_prop n c p q = λ i. record {
-  from_place = le_prop p.from_place q.from_place i;
-  to_place = le_prop p.to_place q.to_place i;
-  apart = ¬_prop p.apart q.apart i;
-  some_bandwidth = le_prop p.some_bandwidth q.some_bandwidth i;
-  most_bandwidth = le_prop p.most_bandwidth q.most_bandwidth i;
-  most_cost = le_prop p.most_cost q.most_cost i;
-}
+records_prop : (names : List (List ℕ)) (circuits : List Circuit) → IsProp (Records names circuits)
+records_prop names circuits = Prim.hlevel (props, each_prop, different_prop)
 
-name_prop : (name : List ℕ) (p q : Name name) → p ≡ q
-name_prop name p q = λ i. (le_prop p.0 q.0 i, le_prop p.1 q.1 i)
+image_prop : (bytes : List ℕ) (names : List (List ℕ)) (circuits : List Circuit) → IsProp (Image bytes names circuits)
+image_prop bytes names circuits = Prim.hlevel (props, records_prop)
 
-records_prop : (names : List (List ℕ)) (circuits : List Circuit) (p q : Records names circuits) → p ≡ q
-records_prop names circuits p q = λ i. record {
-  few_places = le_prop p.few_places q.few_places i;
-  few_circuits = le_prop p.few_circuits q.few_circuits i;
-  names_fit = each_prop Name name_prop names p.names_fit q.names_fit i;
-  names_differ = different_prop names p.names_differ q.names_differ i;
-  sound = each_prop (Sound (length names)) (sound_prop (length names)) circuits p.sound q.sound i;
-}
-
-image_prop : (bytes : List ℕ) (names : List (List ℕ)) (circuits : List Circuit) (p q : Image bytes names circuits) → p ≡ q
-image_prop bytes names circuits p q = λ i. record {
-  records = records_prop names circuits p.records q.records i;
-  written = is_set ℕ_set _ _ p.written q.written i;
-}
+pub scanned_prop : (bytes : List ℕ) (l : Layout) → IsProp (Scanned bytes l)
+scanned_prop bytes l = Prim.hlevel (props, records_prop)
 
 pub image_held : (bytes : List ℕ) (l : Layout) → Held bytes l → ImageOf bytes l
 image_held bytes l h = ∥∥₁_elim h.4 (image_prop bytes (names_in bytes l.places) (circuits_in bytes l.first l.circuits)) (λ i. i)

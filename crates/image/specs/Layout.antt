@@ -5,8 +5,10 @@ use Rattle.image.specs.declared.layout.Layout.{Layout}
 use Rattle.image.specs.declared.layout.Mark.{Mark}
 use Rattle.image.specs.declared.layout.Mark.TheVariants as mark
 use Rattle.network.specs.declared.register.Circuit.{Circuit}
+use Rattle.network.specs.declared.refusal.Refusal.{Refusal}
+use Rattle.network.specs.Refusals.{number_of}
 use Rattle.network.specs.Network.{Network}
-use Rattle.image_format.specs.Image.{at16, at32, PL, CT, EN, Image}
+use Rattle.image_format.specs.Image.{at16, at32, PL, CT, EN, Image, Refused}
 use Rattle.image_format.specs.Claims.{At}
 
 -- the name of the place record that begins at an offset: its length stands after the mark, then its bytes
@@ -53,6 +55,10 @@ pub record Scanned (bytes : List ℕ) (l : Layout) : Type 0 where
   pub few_circuits : l.circuits ≤ 384
   pub first_is : l.first ≡ place_offset bytes l.places
   pub here : At bytes (names_in bytes l.places) (circuits_in bytes l.first l.circuits) (end_of l)
+
+-- the record after those fails its checks
+abbrev pub RefusedAfter : List ℕ → Layout → Refusal → Type 0
+RefusedAfter bytes l e = Refused bytes (number_of e) (end_of l)
 
 -- the records of an image stand so, and the end record after them
 pub record Complete (bytes : List ℕ) (l : Layout) : Type 0 where

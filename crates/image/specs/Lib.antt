@@ -1,3 +1,4 @@
 pub mod Held
 pub mod Layout
+pub mod Left
 pub mod Reading

@@ -1,6 +1,5 @@
 // Figures, circuits and names as an image writes them; figures have the high byte first.
-ghost use Rattle.std.specs.Prelude.{◌≡◌, ℕ, ◌+◌, ◌<◌, ◌≤◌, length, slice_index};
-ghost use Rattle.image_format.specs.Image.{at16, at32};
+ghost use Rattle.std.specs.Prelude.{◌≡◌, ◌+◌, ◌<◌, ◌≤◌, length, take, drop};
 ghost use Rattle.image.specs.Layout.{after_place, circuit_from, name_from};
 
 use network::Circuit;
@@ -8,46 +7,39 @@ use network::Circuit;
 // How many bytes a circuit's record has.
 pub(crate) const CIRCUIT_BYTES: usize = 14;
 
-pub(crate) fn read16(image: &[u8], at: usize) -> u16
-    requires { at + 2 ≤ length image.now }
-    ensures is { result ≡ at16 image.now at }
-    ensures small { (j : ℕ) → at ≤ j → j < at + 2 → slice_index image.now j < 256 }
+// So many bytes from an offset on.
+pub(crate) fn bytes_at<const N: usize>(image: &[u8], at: usize) -> [u8; N]
+    requires { at + N ≤ length image.now }
+    ensures { result ≡ take N (drop at image.now) }
 {
-    u16::from_be_bytes([image[at], image[at + 1]])
-}
-
-pub(crate) fn read32(image: &[u8], at: usize) -> u32
-    requires { at + 4 ≤ length image.now }
-    ensures is { result ≡ at32 image.now at }
-    ensures small { (j : ℕ) → at ≤ j → j < at + 4 → slice_index image.now j < 256 }
-{
-    u32::from_be_bytes([image[at], image[at + 1], image[at + 2], image[at + 3]])
+    *image[at..].first_chunk().unwrap()
 }
 
 // The circuit whose record begins at `at`.
 pub(crate) fn read_circuit(image: &[u8], at: usize) -> Circuit
     requires { at + 14 ≤ length image.now }
-    ensures is { result ≡ circuit_from image.now at }
-    ensures small { (j : ℕ) → at + 2 ≤ j → j < at + 14 → slice_index image.now j < 256 }
+    ensures { result ≡ circuit_from image.now at }
 {
-    let from = read16(image, at + 2);
-    let to = read16(image, at + 4);
-    let bandwidth = read32(image, at + 6);
-    let cost = read32(image, at + 10);
     Circuit {
-        from,
-        to,
-        bandwidth,
-        cost,
+        from: u16::from_be_bytes(bytes_at(image, at + 2)),
+        to: u16::from_be_bytes(bytes_at(image, at + 4)),
+        bandwidth: u32::from_be_bytes(bytes_at(image, at + 6)),
+        cost: u32::from_be_bytes(bytes_at(image, at + 10)),
     }
+}
+
+// Where the place whose record begins at `at` ends.
+pub(crate) fn after_place(image: &[u8], at: usize) -> usize
+    requires { after_place image.now at ≤ length image.now }
+    ensures { result ≡ after_place image.now at }
+{
+    at + 3 + image[at + 2] as usize
 }
 
 // The name of the place whose record begins at `at`, lent from where it stands.
 pub(crate) fn read_name(image: &[u8], at: usize) -> &[u8]
     requires { after_place image.now at ≤ length image.now }
-    ensures is { result.now ≡ name_from image.now at }
-    ensures size { at + (3 + length result.now) ≡ after_place image.now at }
+    ensures { result.now ≡ name_from image.now at }
 {
-    let size = image[at + 2] as usize;
-    &image[at + 3..at + 3 + size]
+    &image[at + 3..after_place(image, at)]
 }

@@ -1,17 +1,18 @@
 // Where the records of an image stand: the places first, then the circuits, then the end.
-ghost use Rattle.std.specs.Prelude.{◌≡◌, ◌+◌, ◌*◌, ◌^◌, ◌<◌, ◌≤◌, length, take, drop, Ok, Err, Decides};
+ghost use Rattle.std.specs.Prelude.{◌≡◌, ℕ, ◌+◌, ◌*◌, ◌^◌, ◌<◌, ◌≤◌, ◌↔◌, length, slice_index, take, drop, IsTrue, MatchResult, MatchOption};
 ghost use Rattle.image_format.specs.Image.{Repeats, Refused};
-ghost use Rattle.image.specs.Layout.{end_of, place_offset, after_place, name_from, names_in, Scanned, Complete, MarkAt};
+ghost use Rattle.image.specs.Layout.{end_of, names_in, Scanned, Complete, MarkAt, RefusedAfter};
+ghost use Rattle.image.specs.Held.{scanned_prop};
 ghost use Rattle.network.specs.Refusals.{number_of};
 
-use super::figure::{CIRCUIT_BYTES, read_circuit, read16};
+use super::figure::{CIRCUIT_BYTES, after_place, bytes_at, read_circuit, read_name};
 use network::{LoadRefusal, MOST_CIRCUITS, MOST_PLACES, Refusal};
 
 // The most bytes that a place's name has.
 const LONGEST_NAME: usize = 16;
 
 // How many places and circuits an image has, and the offset of the first circuit.
-#[derive(Clone, Copy)]
+#[derive(Clone, Copy, Default)]
 pub(crate) struct Layout {
     pub places: u16,
     pub circuits: u16,
@@ -34,165 +35,189 @@ impl Layout {
     {
         self.first + CIRCUIT_BYTES * self.circuits as usize
     }
+}
 
-    // The refusal of the record that begins there.
-    fn refused(self, refusal: Refusal) -> LoadRefusal
-        requires { end_of self < 2 ^ 64 }
-        ensures { result ≡ record { refusal = refusal; at = end_of self } }
+// How far a load has come: the records of the layout are sound, and stand at the front of the image.
+// That bytes are below 256 is known of a parameter, and of a field only where it is said.
+#[derive(Clone, Copy)]
+struct Scan<'a> {
+    image: &'a [u8],
+    layout: Layout,
+    ghost bytes: { (j : ℕ) → slice_index image.now j < 256 },
+    ghost so_far: { Scanned image.now layout } by { scanned_prop image.now layout },
+}
+
+impl<'a> Scan<'a> {
+    // What stands after the records so far.
+    fn rest(&self) -> &'a [u8]
+        ensures { result.now ≡ drop (end_of self.now.layout) self.now.image.now }
     {
-        LoadRefusal {
-            refusal,
-            at: self.end(),
+        &self.image[self.layout.end()..]
+    }
+
+    // The mark of the next record.
+    fn mark(&self) -> Result<Mark, Refusal>
+        ensures { MatchResult result
+            (MarkAt self.now.image.now (end_of self.now.layout))
+            (RefusedAfter self.now.image.now self.now.layout) }
+    {
+        match self.rest() {
+            [b'P', b'L', ..] => Ok(Mark::Place),
+            [b'C', b'T', ..] => Ok(Mark::Circuit),
+            [b'E', b'N', ..] => Ok(Mark::End),
+            [_, _, ..] => Err(Refusal::Mark),
+            _ => Err(Refusal::Short),
         }
     }
-}
 
-// Whether these two letters stand at an offset.
-fn stands(image: &[u8], at: usize, letters: &[u8; 2]) -> bool
-    requires { at + 2 ≤ length image.now }
-    ensures { Decides result (take 2 (drop at image.now) ≡ letters.now) }
-{
-    image[at] == letters[0] && image[at + 1] == letters[1]
-}
-
-// The mark of the record after those of the layout.
-fn mark_after(image: &[u8], layout: Layout) -> Result<Mark, LoadRefusal>
-    requires { Scanned image.now layout }
-    ensures { elim result [ Ok m ↦ MarkAt image.now (end_of layout) m | Err e ↦ Refused image.now (number_of e.refusal) e.at ] }
-{
-    let at = layout.end();
-    if image.len() - at < 2 {
-        return Err(layout.refused(Refusal::Short));
-    }
-    if stands(image, at, b"PL") {
-        Ok(Mark::Place)
-    } else if stands(image, at, b"CT") {
-        Ok(Mark::Circuit)
-    } else if stands(image, at, b"EN") {
-        Ok(Mark::End)
-    } else {
-        Err(layout.refused(Refusal::Mark))
-    }
-}
-
-// Whether the place that begins at `at`, after all of these places, has the name of one of them.
-fn repeated(image: &[u8], places: u16, at: usize) -> bool
-    requires begins { at ≡ place_offset image.now places }
-    requires within { after_place image.now at ≤ length image.now }
-    ensures { Decides result (Repeats (name_from image.now at) (names_in image.now places)) }
-{
-    let size = image[at + 2];
-    let mut next = 0;
-    'earlier: for i in 0..places {
-        let here = next;
-        let other = image[here + 2];
-        next = here + 3 + other as usize;
-        if other != size {
-            continue;
+    // Whether one of the places so far has this name.
+    #[tactic(auto, using(crate::proofs::Offsets::within, crate::proofs::Offsets::repeats_when, crate::proofs::Offsets::repeats_where))]
+    fn repeats(&self, name: &[u8]) -> bool
+        ensures { IsTrue result ↔ Repeats name.now (names_in self.now.image.now self.now.layout.places) }
+    {
+        let mut next = 0;
+        // These nested loops left by a label are asked for (docs/DECISIONS.md, "Language forms").
+        'earlier: for _ in 0..self.layout.places {
+            let other = read_name(self.image, next);
+            next = after_place(self.image, next);
+            if other.len() != name.len() {
+                continue;
+            }
+            for (a, b) in other.iter().zip(name) {
+                if a != b {
+                    continue 'earlier;
+                }
+            }
+            return true;
         }
-        for k in 0..size as usize {
-            if image[here + 3 + k] != image[at + 3 + k] {
-                continue 'earlier;
+        false
+    }
+
+    // One place more.
+    #[tactic(auto, using(crate::proofs::Loading::place_refused))]
+    fn place(&self) -> Result<Scan<'a>, Refusal>
+        requires { MarkAt self.now.image.now (end_of self.now.layout) Mark.Place }
+        ensures { MatchResult result
+            (λ s. (s.image ≡ self.now.image) × (end_of self.now.layout < end_of s.layout))
+            (RefusedAfter self.now.image.now self.now.layout) }
+    {
+        let rest = self.rest();
+        if self.layout.circuits > 0 {
+            return Err(Refusal::Order);
+        }
+        if self.layout.places >= MOST_PLACES {
+            return Err(Refusal::Full);
+        }
+        let Some(&size) = rest.get(2) else {
+            return Err(Refusal::Short);
+        };
+        let size = size as usize;
+        if !(1..=LONGEST_NAME).contains(&size) {
+            return Err(Refusal::Name);
+        }
+        let Some(name) = rest.get(3..3 + size) else {
+            return Err(Refusal::Short);
+        };
+        if self.repeats(name) {
+            return Err(Refusal::Name);
+        }
+        Ok(Scan {
+            image: self.image,
+            layout: Layout {
+                places: self.layout.places + 1,
+                circuits: 0,
+                first: self.layout.end() + 3 + size,
+            },
+        })
+    }
+
+    // One circuit more.
+    #[tactic(auto, using(crate::proofs::Loading::circuit_refused))]
+    fn circuit(&self) -> Result<Scan<'a>, Refusal>
+        requires { MarkAt self.now.image.now (end_of self.now.layout) Mark.Circuit }
+        ensures { MatchResult result
+            (λ s. (s.image ≡ self.now.image) × (end_of self.now.layout < end_of s.layout))
+            (RefusedAfter self.now.image.now self.now.layout) }
+    {
+        let rest = self.rest();
+        if self.layout.circuits >= MOST_CIRCUITS {
+            return Err(Refusal::Full);
+        }
+        if rest.len() < CIRCUIT_BYTES {
+            return Err(Refusal::Short);
+        }
+        let circuit = read_circuit(rest, 0);
+        if circuit.bad_ends(self.layout.places) {
+            return Err(Refusal::Ends);
+        }
+        if circuit.bad_figures() {
+            return Err(Refusal::Figure);
+        }
+        Ok(Scan {
+            image: self.image,
+            layout: Layout {
+                circuits: self.layout.circuits + 1,
+                ..self.layout
+            },
+        })
+    }
+
+    // That the end record tells how many records came before it, and that nothing comes after it.
+    #[tactic(auto, using(crate::proofs::Loading::end_refused, crate::proofs::Loading::end_taken))]
+    fn check_end(&self) -> Result<(), Refusal>
+        requires { MarkAt self.now.image.now (end_of self.now.layout) Mark.End }
+        ensures { MatchResult result
+            (λ _. Complete self.now.image.now self.now.layout)
+            (RefusedAfter self.now.image.now self.now.layout) }
+    {
+        let rest = self.rest();
+        if rest.len() < 4 {
+            return Err(Refusal::Short);
+        }
+        let count = u16::from_be_bytes(bytes_at(rest, 2));
+        if count != self.layout.places + self.layout.circuits || rest.len() != 4 {
+            return Err(Refusal::Tail);
+        }
+        Ok(())
+    }
+
+    // One record more, or nothing where the next is the end.
+    fn step(&self) -> Result<Option<Scan<'a>>, Refusal>
+        ensures { MatchResult result
+            (λ next. MatchOption next (Complete self.now.image.now self.now.layout)
+            (λ s. (s.image ≡ self.now.image) × (end_of self.now.layout < end_of s.layout)))
+            (RefusedAfter self.now.image.now self.now.layout) }
+    {
+        match self.mark()? {
+            Mark::Place => Ok(Some(self.place()?)),
+            Mark::Circuit => Ok(Some(self.circuit()?)),
+            Mark::End => {
+                self.check_end()?;
+                Ok(None)
             }
         }
-        return true;
     }
-    false
-}
-
-// The layout with the place that begins after it.
-fn after_place(image: &[u8], layout: Layout) -> Result<Layout, LoadRefusal>
-    requires so_far { Scanned image.now layout }
-    requires marked { MarkAt image.now (end_of layout) Mark.Place }
-    ensures { elim result [ Ok l ↦ Scanned image.now l × (end_of layout < end_of l) | Err e ↦ Refused image.now (number_of e.refusal) e.at ] }
-{
-    let at = layout.end();
-    if layout.circuits > 0 {
-        return Err(layout.refused(Refusal::Order));
-    }
-    if layout.places >= MOST_PLACES {
-        return Err(layout.refused(Refusal::Full));
-    }
-    if image.len() - at < 3 {
-        return Err(layout.refused(Refusal::Short));
-    }
-    let size = image[at + 2] as usize;
-    if size < 1 || size > LONGEST_NAME {
-        return Err(layout.refused(Refusal::Name));
-    }
-    if image.len() - at < 3 + size {
-        return Err(layout.refused(Refusal::Short));
-    }
-    if repeated(image, layout.places, at) {
-        return Err(layout.refused(Refusal::Name));
-    }
-    Ok(Layout {
-        places: layout.places + 1,
-        circuits: 0,
-        first: at + 3 + size,
-    })
-}
-
-// The layout with the circuit that begins after it.
-fn after_circuit(image: &[u8], layout: Layout) -> Result<Layout, LoadRefusal>
-    requires so_far { Scanned image.now layout }
-    requires marked { MarkAt image.now (end_of layout) Mark.Circuit }
-    ensures { elim result [ Ok l ↦ Scanned image.now l × (end_of layout < end_of l) | Err e ↦ Refused image.now (number_of e.refusal) e.at ] }
-{
-    let at = layout.end();
-    if layout.circuits >= MOST_CIRCUITS {
-        return Err(layout.refused(Refusal::Full));
-    }
-    if image.len() - at < CIRCUIT_BYTES {
-        return Err(layout.refused(Refusal::Short));
-    }
-    let circuit = read_circuit(image, at);
-    if circuit.bad_ends(layout.places) {
-        return Err(layout.refused(Refusal::Ends));
-    }
-    if circuit.bad_figures() {
-        return Err(layout.refused(Refusal::Figure));
-    }
-    Ok(Layout {
-        places: layout.places,
-        circuits: layout.circuits + 1,
-        first: layout.first,
-    })
-}
-
-// That the end record after the layout tells how many records came before it, and that nothing comes after it.
-fn check_end(image: &[u8], layout: Layout) -> Result<(), LoadRefusal>
-    requires so_far { Scanned image.now layout }
-    requires marked { MarkAt image.now (end_of layout) Mark.End }
-    ensures { elim result [ Ok _ ↦ Complete image.now layout | Err e ↦ Refused image.now (number_of e.refusal) e.at ] }
-{
-    let at = layout.end();
-    if image.len() - at < 4 {
-        return Err(layout.refused(Refusal::Short));
-    }
-    let count = read16(image, at + 2);
-    if count != layout.places + layout.circuits || image.len() - at != 4 {
-        return Err(layout.refused(Refusal::Tail));
-    }
-    Ok(())
 }
 
 // The layout of an image, or what is wrong with the first record that fails.
 pub(crate) fn read_layout(image: &[u8]) -> Result<Layout, LoadRefusal>
-    ensures { elim result [ Ok l ↦ Complete image.now l | Err e ↦ Refused image.now (number_of e.refusal) e.at ] }
+    ensures { MatchResult result
+        (Complete image.now)
+        (λ e. Refused image.now (number_of e.refusal) e.at) }
 {
-    let mut layout = Layout {
-        places: 0,
-        circuits: 0,
-        first: 0,
+    let mut scan = Scan {
+        image,
+        layout: Layout::default(),
     };
-    'records: loop {
-        match mark_after(image, layout)? {
-            Mark::Place => layout = after_place(image, layout)?,
-            Mark::Circuit => layout = after_circuit(image, layout)?,
-            Mark::End => {
-                check_end(image, layout)?;
-                return Ok(layout);
+    loop {
+        match scan.step() {
+            Ok(Some(next)) => scan = next,
+            Ok(None) => return Ok(scan.layout),
+            Err(refusal) => {
+                return Err(LoadRefusal {
+                    refusal,
+                    at: scan.layout.end(),
+                });
             }
         }
     }

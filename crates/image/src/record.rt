@@ -1,12 +1,11 @@
 // The records of an image, one after the other.
 ghost use Rattle.std.specs.Prelude.{◌≡◌, ◌+◌, ◌-◌};
-ghost use Rattle.image.specs.Held.{Held};
-ghost use Rattle.image.specs.Reading.{Next, Gives, told_after};
+ghost use Rattle.image.specs.Reading.{Next, Gives};
 ghost use Rattle.std.specs.Iterator.{at_most};
 
-use super::figure::{CIRCUIT_BYTES, read_circuit, read_name, read16};
-use super::layout::Layout;
-use network::Circuit;
+use super::figure::{after_place, bytes_at, read_name};
+use super::register::ImageRegister;
+use network::{Circuit, Register};
 
 // One record. The name of a place is lent from where it stands in the image.
 #[derive(Clone, Copy)]
@@ -16,26 +15,22 @@ pub enum Record<'a> {
     End { count: u16 },
 }
 
-// Gives the records of a loaded image in turn: how many it has given, and where the next place begins.
+// Gives the records of a register's image in turn: how many it has given, and where the next place begins.
 #[derive(Drop)]
 pub struct Records<'a> {
-    image: &'a [u8],
-    layout: Layout,
+    register: ImageRegister<'a>,
     given: u16,
     at: usize,
-    ghost held: { Held image.now layout },
-    ghost next: { Next image.now layout given at },
+    ghost next: { Next register.image.now register.layout given at },
 }
 
 impl<'a> Records<'a> {
     // A reader that has given nothing yet.
-    pub(crate) fn new(image: &'a [u8], layout: Layout) -> Records<'a>
-        requires { Held image.now layout }
-        ensures { (result.image ≡ image.entry) × (result.layout ≡ layout) × (result.given ≡ 0) }
+    pub(crate) fn new(register: ImageRegister<'a>) -> Records<'a>
+        ensures { (result.register ≡ register.entry) × (result.given ≡ 0) }
     {
         Records {
-            image,
-            layout,
+            register,
             given: 0,
             at: 0,
         }
@@ -43,27 +38,29 @@ impl<'a> Records<'a> {
 }
 
 impl<'a> Iterator for Records<'a> {
+    ghost use Rattle.image.specs.Left.{left};
+
     type Item = Record<'a>;
 
-    // It gives the records that are left, in their order, and stays over the same image.
-    ghost next_gives = { λ s r t. (t.image ≡ s.image) × (t.layout ≡ s.layout) × Gives (told_after s.image.now s.layout s.given) r (told_after t.image.now t.layout t.given) };
+    // It gives the records that are left, in their order, and stays over the same register.
+    ghost next_gives = { λ s r t. (t.register ≡ s.register) × Gives (left s) r (left t) };
 
-    ghost remaining = { λ s. at_most (s.layout.places + s.layout.circuits + 1 - s.given) };
+    ghost remaining = { λ s. at_most (s.register.layout.places + s.register.layout.circuits + 1 - s.given) };
 
+    #[tactic(auto, using(crate::proofs::Offsets::within, crate::specs::Held::circuit_count, crate::proofs::Telling::telling))]
     fn next(&mut self) -> Option<Record<'a>> {
+        let ImageRegister { image, layout } = self.register;
         let number = self.given;
-        let places = self.layout.places;
-        if number < places {
-            let name = read_name(self.image, self.at);
-            self.at += 3 + name.len();
+        if number < layout.places {
+            let name = read_name(image, self.at);
+            self.at = after_place(image, self.at);
             self.given = number + 1;
             Some(Record::Place { name })
-        } else if number < places + self.layout.circuits {
-            let at = self.layout.first + CIRCUIT_BYTES * (number - places) as usize;
+        } else if let Some(circuit) = self.register.circuit((number - layout.places) as u32) {
             self.given = number + 1;
-            Some(Record::Circuit(read_circuit(self.image, at)))
-        } else if number == places + self.layout.circuits {
-            let count = read16(self.image, self.layout.end() + 2);
+            Some(Record::Circuit(circuit))
+        } else if number == layout.places + layout.circuits {
+            let count = u16::from_be_bytes(bytes_at(image, layout.end() + 2));
             self.given = number + 1;
             Some(Record::End { count })
         } else {

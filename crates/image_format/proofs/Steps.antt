@@ -1,11 +1,13 @@
 -- The steps of a load: from sound records and an offset to the next ones.
 use Rattle.std.proofs.Common.{◌≡◌, ℕ, zero, suc, ◌+◌, ◌<◌, ◌≤◌, ◌⊎◌, List, [], ◌∷◌, ◌++◌, map, length, get_or, take, drop, sym, refl, ap, ◌∙◌, subst, inl, inr, ⊎_elim, append_assoc, arith, length-append}
-use Rattle.std.proofs.lemmas.List.{append-nil, drop-drop, drop_more, drop_all, take-append-drop, length-take-le, length-drop, length_push, get_or-drop}
-use Rattle.std.proofs.lemmas.Bool.{cases_lt}
+use Rattle.std.proofs.lemmas.List.{append-nil, drop-drop, drop_more, drop_all, nil_from_length, take-append-drop, length-take-le, length-drop, length_push, get_or-drop}
+use Rattle.std.proofs.lemmas.Bool.{cases_eq}
 use Rattle.network.specs.Checks.{First, Passed}
 use Rattle.network.specs.declared.register.Circuit.{Circuit}
-use Rattle.network.specs.Network.{Sound, BadEnds, BadFigures}
+use Rattle.network.specs.Network.{Sound}
 use Rattle.network.specs.Routes.{Each}
+use Rattle.network.proofs.Circuits.{sound_told}
+use Rattle.network.proofs.Verdicts.{Settled, both, below, upto, stable}
 use Rattle.image_format.specs.Image.{at16, PL, CT, EN, place_bytes, circuit_bytes, end_bytes, concat, records_bytes, Repeats, Different, Name, Records, Image, Marked, mark_checks, size, place_checks, told, circuit_checks, end_checks, Fault, Refused}
 use Rattle.image_format.specs.Claims.{At}
 use Rattle.image_format.proofs.Figures.{be16_two, be32_four}
@@ -16,9 +18,6 @@ Bytes xs = Each (λ b. b < 256) xs
 -- the bytes of a list from a place up to another: all that a load reads of them
 abbrev pub Below : List ℕ → ℕ → ℕ → Type 0
 Below xs from to = (j : ℕ) → from ≤ j → j < to → get_or xs j 0 < 256
-
-pub below_join : (xs : List ℕ) (a b c : ℕ) → Below xs a b → Below xs b c → Below xs a c
-below_join xs a b c p q j h k = ⊎_elim (λ l. p j h l) (λ l. q j l k) (cases_lt j b)
 
 pub below_drop : (xs : List ℕ) (offset a b : ℕ) → Below xs (offset + a) (offset + b) → Below (drop offset xs) a b
 below_drop xs offset a b p j h k = rw get_or-drop (p (offset + j) (omega arith) (omega arith))
@@ -76,6 +75,13 @@ marked a b [] e = cc
 marked a b (x ∷ []) e = cc
 marked a b (x ∷ y ∷ t) e = cc
 
+-- bytes read off one by one
+two_read : (rest : List ℕ) (i : ℕ) → i + 2 ≤ length rest → drop i rest ≡ get_or rest i 0 ∷ get_or rest (i + 1) 0 ∷ drop (i + 1 + 1) rest
+two_read rest i h = drop_more rest i 0 (omega arith) ∙ ap (λ z. get_or rest i 0 ∷ z) (drop_more rest (i + 1) 0 (omega arith))
+
+four_read : (rest : List ℕ) (i : ℕ) → i + 4 ≤ length rest → drop i rest ≡ get_or rest i 0 ∷ get_or rest (i + 1) 0 ∷ get_or rest (i + 1 + 1) 0 ∷ get_or rest (i + 1 + 1 + 1) 0 ∷ drop (i + 1 + 1 + 1 + 1) rest
+four_read rest i h = two_read rest i (omega arith) ∙ ap (λ z. get_or rest i 0 ∷ get_or rest (i + 1) 0 ∷ z) (two_read rest (i + 1 + 1) (omega arith))
+
 pub place_front : (names : List (List ℕ)) (circuits : List Circuit) (rest : List ℕ) → Marked names circuits rest PL → 3 + size names circuits rest ≤ length rest → rest ≡ place_bytes (take (get_or rest 2 0) (drop 3 rest)) ++ drop (3 + get_or rest 2 0) rest
 place_front names circuits rest m l =
     let a = marked 80 76 rest m in
@@ -90,18 +96,9 @@ place_front names circuits rest m l =
 pub circuit_front : (names : List (List ℕ)) (circuits : List Circuit) (rest : List ℕ) → Below rest 2 14 → Marked names circuits rest CT → 14 ≤ length rest → rest ≡ circuit_bytes (told names circuits rest) ++ drop 14 rest
 circuit_front names circuits rest e m l =
     let a = marked 67 84 rest m in
-    let d2 : drop 2 rest ≡ get_or rest 2 0 ∷ drop 3 rest = drop_more rest 2 0 (omega arith) in
-    let d3 : drop 3 rest ≡ get_or rest 3 0 ∷ drop 4 rest = drop_more rest 3 0 (omega arith) in
-    let d4 : drop 4 rest ≡ get_or rest 4 0 ∷ drop 5 rest = drop_more rest 4 0 (omega arith) in
-    let d5 : drop 5 rest ≡ get_or rest 5 0 ∷ drop 6 rest = drop_more rest 5 0 (omega arith) in
-    let d6 : drop 6 rest ≡ get_or rest 6 0 ∷ drop 7 rest = drop_more rest 6 0 (omega arith) in
-    let d7 : drop 7 rest ≡ get_or rest 7 0 ∷ drop 8 rest = drop_more rest 7 0 (omega arith) in
-    let d8 : drop 8 rest ≡ get_or rest 8 0 ∷ drop 9 rest = drop_more rest 8 0 (omega arith) in
-    let d9 : drop 9 rest ≡ get_or rest 9 0 ∷ drop 10 rest = drop_more rest 9 0 (omega arith) in
-    let d10 : drop 10 rest ≡ get_or rest 10 0 ∷ drop 11 rest = drop_more rest 10 0 (omega arith) in
-    let d11 : drop 11 rest ≡ get_or rest 11 0 ∷ drop 12 rest = drop_more rest 11 0 (omega arith) in
-    let d12 : drop 12 rest ≡ get_or rest 12 0 ∷ drop 13 rest = drop_more rest 12 0 (omega arith) in
-    let d13 : drop 13 rest ≡ get_or rest 13 0 ∷ drop 14 rest = drop_more rest 13 0 (omega arith) in
+    let ends : drop 2 rest ≡ get_or rest 2 0 ∷ get_or rest 3 0 ∷ get_or rest 4 0 ∷ get_or rest 5 0 ∷ drop 6 rest = four_read rest 2 (omega arith) in
+    let bandwidth : drop 6 rest ≡ get_or rest 6 0 ∷ get_or rest 7 0 ∷ get_or rest 8 0 ∷ get_or rest 9 0 ∷ drop 10 rest = four_read rest 6 (omega arith) in
+    let cost : drop 10 rest ≡ get_or rest 10 0 ∷ get_or rest 11 0 ∷ get_or rest 12 0 ∷ get_or rest 13 0 ∷ drop 14 rest = four_read rest 10 (omega arith) in
     let f = be16_two (get_or rest 2 0) (get_or rest 3 0) (e 2 (omega arith) (omega arith)) (e 3 (omega arith) (omega arith)) in
     let g = be16_two (get_or rest 4 0) (get_or rest 5 0) (e 4 (omega arith) (omega arith)) (e 5 (omega arith) (omega arith)) in
     let h = be32_four (get_or rest 6 0) (get_or rest 7 0) (get_or rest 8 0) (get_or rest 9 0) (e 6 (omega arith) (omega arith)) (e 7 (omega arith) (omega arith)) (e 8 (omega arith) (omega arith)) (e 9 (omega arith) (omega arith)) in
@@ -111,9 +108,8 @@ circuit_front names circuits rest e m l =
 pub end_front : (names : List (List ℕ)) (circuits : List Circuit) (rest : List ℕ) → Below rest 2 4 → Marked names circuits rest EN → length rest ≡ 4 → rest ≡ end_bytes (at16 rest 2)
 end_front names circuits rest e m l =
     let a = marked 69 78 rest m in
-    let d2 : drop 2 rest ≡ get_or rest 2 0 ∷ drop 3 rest = drop_more rest 2 0 (omega arith) in
-    let d3 : drop 3 rest ≡ get_or rest 3 0 ∷ drop 4 rest = drop_more rest 3 0 (omega arith) in
-    let d4 : drop 4 rest ≡ [] = drop_all 4 rest (omega arith) in
+    let count : drop 2 rest ≡ get_or rest 2 0 ∷ get_or rest 3 0 ∷ drop 4 rest = two_read rest 2 (omega arith) in
+    let none : drop 4 rest ≡ [] = drop_all 4 rest (omega arith) in
     let f = be16_two (get_or rest 2 0) (get_or rest 3 0) (e 2 (omega arith) (omega arith)) (e 3 (omega arith) (omega arith)) in
     cc
 
@@ -171,6 +167,32 @@ module _ (bytes : List ℕ) (names : List (List ℕ)) (circuits : List Circuit) 
     written = s.before ∙ ap (λ z. records_bytes names circuits ++ z) (end_front names circuits Rest (below_drop bytes offset 2 4 w) m h ∙ ap end_bytes e);
   }
 
+  -- the same three by their checks, all of which pass
+  pub place_passed : At bytes names circuits offset → Marked names circuits Rest PL → Passed (place_checks names circuits Rest) → At bytes (names ++ told_name ∷ []) [] (offset + (3 + size names circuits Rest))
+  place_passed s m p =
+      let n : ℕ = get_or Rest 2 0 in
+      let none : circuits ≡ [] = nil_from_length circuits (omega (arith, stable (length circuits < 1) (below (length circuits) 1) (λ k. p.0 (omega arith)))) in
+      let few : length names < 128 = stable (length names < 128) (below (length names) 128) (λ k. p.1.0 (omega arith)) in
+      let fits : (1 ≤ n) × (n ≤ 16) = stable ((1 ≤ n) × (n ≤ 16)) (both (1 ≤ n) (n ≤ 16) (upto 1 n) (upto n 16)) p.1.1.1.0 in
+      let whole : 3 + n ≤ length Rest = stable (3 + n ≤ length Rest) (upto (3 + n) (length Rest)) (λ k. p.1.1.1.1.0 (omega arith)) in
+      subst (λ z. At bytes (names ++ told_name ∷ []) z (offset + (3 + n))) none (place_step s m none few fits.0 fits.1 whole p.1.1.1.1.1.0)
+
+  pub circuit_passed : At bytes names circuits offset → Below bytes (offset + 2) (offset + 14) → Marked names circuits Rest CT → Passed (circuit_checks names circuits Rest) → At bytes names (circuits ++ told names circuits Rest ∷ []) (offset + 14)
+  circuit_passed s w m p =
+      let few : length circuits < 384 = stable (length circuits < 384) (below (length circuits) 384) (λ k. p.0 (omega arith)) in
+      let whole : 14 ≤ length Rest = stable (14 ≤ length Rest) (upto 14 (length Rest)) (λ k. p.1.0 (omega arith)) in
+      circuit_step s w m few whole (sound_told (length names) (told names circuits Rest) p.1.1.0 p.1.1.1.0)
+
+  -- an end record that counts the records before it, with nothing after it
+  abbrev pub Last : Type 0
+  Last = (at16 Rest 2 ≡ length names + length circuits) × (length Rest ≡ 4)
+
+  pub last_settled : Settled Last
+  last_settled = both (at16 Rest 2 ≡ length names + length circuits) (length Rest ≡ 4) (cases_eq (at16 Rest 2) (length names + length circuits)) (cases_eq (length Rest) 4)
+
+  pub end_passed : At bytes names circuits offset → Below bytes (offset + 2) (offset + 4) → Marked names circuits Rest EN → Passed (end_checks names circuits Rest) → Image bytes names circuits
+  end_passed s w m p = let last : Last = stable Last last_settled p.1.0 in end_step s w m last.1 last.0
+
   -- a record that fails a check
   pub refuse : (k : ℕ) → At bytes names circuits offset → Fault names circuits Rest k → Refused bytes k offset
   refuse k s f = record { names = names; circuits = circuits; rest = Rest; records = s.records; before = s.before; at = s.at; fault = f }
@@ -181,9 +203,6 @@ module _ (bytes : List ℕ) (names : List (List ℕ)) (circuits : List Circuit) 
   -- each refusal
   pub no_mark : Here → length Rest < 2 → Refused bytes 1 offset
   no_mark s h = refuse 1 s (inl (inl (refl, h)))
-
-  pub unknown_mark : Here → 2 ≤ length Rest → ((Marked names circuits Rest PL ⊎ (Marked names circuits Rest CT ⊎ Marked names circuits Rest EN)) → ⊥) → Refused bytes 2 offset
-  unknown_mark s l h = refuse 2 s (inl (inr ((λ k. omega arith), inl (refl, h))))
 
   known : 2 ≤ length Rest → (Marked names circuits Rest PL ⊎ (Marked names circuits Rest CT ⊎ Marked names circuits Rest EN)) → Passed (mark_checks names circuits Rest)
   known l m = ((λ h. omega arith), ((λ h. h m), tt))
@@ -196,42 +215,3 @@ module _ (bytes : List ℕ) (names : List (List ℕ)) (circuits : List Circuit) 
 
   pub end_fault : (k : ℕ) → Here → 2 ≤ length Rest → Marked names circuits Rest EN → First k (end_checks names circuits Rest) → Refused bytes k offset
   end_fault k s l m f = refuse k s (inr (known l (inr (inr m)), inr (inr (m, f))))
-
-  -- a place: too late, one too many, cut short before its length, of a wrong length, cut short, a name twice
-  pub place_late : 1 ≤ length circuits → First 4 (place_checks names circuits Rest)
-  place_late h = inl (refl, h)
-
-  pub place_over : length circuits ≡ 0 → 128 ≤ length names → First 7 (place_checks names circuits Rest)
-  place_over a h = inr ((λ k. omega arith), inl (refl, h))
-
-  pub place_short : length circuits ≡ 0 → length names < 128 → length Rest < 3 → First 1 (place_checks names circuits Rest)
-  place_short a b h = inr ((λ k. omega arith), inr ((λ k. omega arith), inl (refl, h)))
-
-  pub place_size : length circuits ≡ 0 → length names < 128 → 3 ≤ length Rest → ((1 ≤ size names circuits Rest) × (size names circuits Rest ≤ 16) → ⊥) → First 3 (place_checks names circuits Rest)
-  place_size a b c h = inr ((λ k. omega arith), inr ((λ k. omega arith), inr ((λ k. omega arith), inl (refl, h))))
-
-  pub place_cut : length circuits ≡ 0 → length names < 128 → 3 ≤ length Rest → 1 ≤ size names circuits Rest → size names circuits Rest ≤ 16 → length Rest < 3 + size names circuits Rest → First 1 (place_checks names circuits Rest)
-  place_cut a b c d e h = inr ((λ k. omega arith), inr ((λ k. omega arith), inr ((λ k. omega arith), inr ((λ k. k (d, e)), inl (refl, h)))))
-
-  pub place_twice : length circuits ≡ 0 → length names < 128 → 1 ≤ size names circuits Rest → size names circuits Rest ≤ 16 → 3 + size names circuits Rest ≤ length Rest → Repeats told_name names → First 3 (place_checks names circuits Rest)
-  place_twice a b d e f h = inr ((λ k. omega arith), inr ((λ k. omega arith), inr ((λ k. omega arith), inr ((λ k. k (d, e)), inr ((λ k. omega arith), inl (refl, h))))))
-
-  -- a circuit: one too many, cut short, bad ends, bad figures
-  pub circuit_over : 384 ≤ length circuits → First 7 (circuit_checks names circuits Rest)
-  circuit_over h = inl (refl, h)
-
-  pub circuit_cut : length circuits < 384 → length Rest < 14 → First 1 (circuit_checks names circuits Rest)
-  circuit_cut a h = inr ((λ k. omega arith), inl (refl, h))
-
-  pub circuit_ends : length circuits < 384 → 14 ≤ length Rest → BadEnds (length names) (told names circuits Rest) → First 5 (circuit_checks names circuits Rest)
-  circuit_ends a b h = inr ((λ k. omega arith), inr ((λ k. omega arith), inl (refl, h)))
-
-  pub circuit_figures : length circuits < 384 → 14 ≤ length Rest → (BadEnds (length names) (told names circuits Rest) → ⊥) → BadFigures (told names circuits Rest) → First 6 (circuit_checks names circuits Rest)
-  circuit_figures a b c h = inr ((λ k. omega arith), inr ((λ k. omega arith), inr (c, inl (refl, h))))
-
-  -- an end: cut short, or a wrong count, or bytes after it
-  pub end_cut : length Rest < 4 → First 1 (end_checks names circuits Rest)
-  end_cut h = inl (refl, h)
-
-  pub end_wrong : 4 ≤ length Rest → ((at16 Rest 2 ≡ length names + length circuits) × (length Rest ≡ 4) → ⊥) → First 8 (end_checks names circuits Rest)
-  end_wrong a h = inr ((λ k. omega arith), inl (refl, h))

@@ -1,14 +1,13 @@
 -- Every list of bytes is an image or is refused.
 use Rattle.std.proofs.Common.{◌≡◌, ℕ, zero, suc, ◌+◌, ◌<◌, ◌≤◌, ◌⊎◌, List, [], ◌∷◌, ◌++◌, length, get_or, take, drop, refl, ap, ◌∙◌, inl, inr, ⊎_elim, arith, length-append}
-use Rattle.std.proofs.lemmas.List.{nil_from_length}
 use Rattle.std.proofs.lemmas.Bool.{cases_eq}
 use Rattle.network.specs.Checks.{Passed}
 use Rattle.network.specs.declared.register.Circuit.{Circuit}
-use Rattle.network.proofs.Ends.{sound_told, ends_settled, figures_settled}
+use Rattle.network.proofs.Ends.{ends_settled, figures_settled}
 use Rattle.network.proofs.Verdicts.{Settled, both, either, opposite, below, upto, stable, Verdict, verdict}
-use Rattle.image_format.specs.Image.{at16, PL, CT, EN, records_bytes, Repeats, Marked, mark_checks, place_checks, told, circuit_checks, end_checks, Fault}
+use Rattle.image_format.specs.Image.{PL, CT, EN, records_bytes, Repeats, Marked, mark_checks, place_checks, told, circuit_checks, end_checks, Fault}
 use Rattle.image_format.specs.Claims.{Loads, Fails, Outcome, At}
-use Rattle.image_format.proofs.Steps.{Bytes, each_read, at_start, place_step, circuit_step, end_step, refuse, told_name}
+use Rattle.image_format.proofs.Steps.{Bytes, each_read, at_start, place_passed, circuit_passed, Last, last_settled, end_passed, refuse, told_name}
 
 alike_more : (x y : ℕ) (xs ys : List ℕ) → Settled (x ≡ y) → Settled (xs ≡ ys) → Settled (x ∷ xs ≡ y ∷ ys)
 alike_more x y xs ys (inl p) (inl q) = inl (cc)
@@ -40,28 +39,17 @@ module _ (bytes : List ℕ) (w : Bytes bytes) where
     at_place : Passed (mark_checks names circuits Rest) → Marked names circuits Rest PL → Verdict (place_checks names circuits Rest) → Outcome bytes
     at_place p m (inl f) = fails f.0 (inr (p, inl (m, f.1)))
     at_place p m (inr q) =
-        let n : ℕ = get_or Rest 2 0 in
-        let a : length circuits ≡ 0 = omega (arith, stable (length circuits < 1) (below (length circuits) 1) (λ k. q.0 (omega arith))) in
-        let b : length names < 128 = stable (length names < 128) (below (length names) 128) (λ k. q.1.0 (omega arith)) in
-        let c : (1 ≤ n) × (n ≤ 16) = stable ((1 ≤ n) × (n ≤ 16)) (both (1 ≤ n) (n ≤ 16) (upto 1 n) (upto n 16)) q.1.1.1.0 in
-        let d : 3 + n ≤ length Rest = stable (3 + n ≤ length Rest) (upto (3 + n) (length Rest)) (λ k. q.1.1.1.1.0 (omega arith)) in
-        on (names ++ told_name bytes names circuits offset ∷ []) circuits (offset + (3 + n)) (omega arith) (place_step bytes names circuits offset s m (nil_from_length circuits a) b c.0 c.1 d q.1.1.1.1.1.0)
+        on (names ++ told_name bytes names circuits offset ∷ []) [] (offset + (3 + get_or Rest 2 0)) (omega arith) (place_passed bytes names circuits offset s m q)
 
     at_circuit : Passed (mark_checks names circuits Rest) → Marked names circuits Rest CT → Verdict (circuit_checks names circuits Rest) → Outcome bytes
     at_circuit p m (inl f) = fails f.0 (inr (p, inr (inl (m, f.1))))
     at_circuit p m (inr q) =
-        let a : length circuits < 384 = stable (length circuits < 384) (below (length circuits) 384) (λ k. q.0 (omega arith)) in
-        let b : 14 ≤ length Rest = stable (14 ≤ length Rest) (upto 14 (length Rest)) (λ k. q.1.0 (omega arith)) in
-        on names (circuits ++ told names circuits Rest ∷ []) (offset + 14) (omega arith) (circuit_step bytes names circuits offset s (λ j _ _. each_read bytes j w) m a b (sound_told (length names) (told names circuits Rest) q.1.1.0 q.1.1.1.0))
-
-    count_settled : Settled ((at16 Rest 2 ≡ length names + length circuits) × (length Rest ≡ 4))
-    count_settled = both (at16 Rest 2 ≡ length names + length circuits) (length Rest ≡ 4) (cases_eq (at16 Rest 2) (length names + length circuits)) (cases_eq (length Rest) 4)
+        on names (circuits ++ told names circuits Rest ∷ []) (offset + 14) (omega arith) (circuit_passed bytes names circuits offset s (λ j _ _. each_read bytes j w) m q)
 
     at_end : Passed (mark_checks names circuits Rest) → Marked names circuits Rest EN → Verdict (end_checks names circuits Rest) → Outcome bytes
     at_end p m (inl f) = fails f.0 (inr (p, inr (inr (m, f.1))))
     at_end p m (inr q) =
-        let a : (at16 Rest 2 ≡ length names + length circuits) × (length Rest ≡ 4) = stable ((at16 Rest 2 ≡ length names + length circuits) × (length Rest ≡ 4)) count_settled q.1.0 in
-        inl (record { names = names; circuits = circuits; image = end_step bytes names circuits offset s (λ j _ _. each_read bytes j w) m a.1 a.0 })
+        inl (record { names = names; circuits = circuits; image = end_passed bytes names circuits offset s (λ j _ _. each_read bytes j w) m q })
 
     place_verdict : Verdict (place_checks names circuits Rest)
     place_verdict =
@@ -74,7 +62,7 @@ module _ (bytes : List ℕ) (w : Bytes bytes) where
         verdict (circuit_checks names circuits Rest) (upto 384 (length circuits), (below (length Rest) 14, (ends_settled (length names) c, (figures_settled c, tt))))
 
     end_verdict : Verdict (end_checks names circuits Rest)
-    end_verdict = verdict (end_checks names circuits Rest) (below (length Rest) 4, (opposite ((at16 Rest 2 ≡ length names + length circuits) × (length Rest ≡ 4)) count_settled, tt))
+    end_verdict = verdict (end_checks names circuits Rest) (below (length Rest) 4, (opposite (Last bytes names circuits offset) (last_settled bytes names circuits offset), tt))
 
     abbrev Known : Type 0
     Known = Marked names circuits Rest PL ⊎ (Marked names circuits Rest CT ⊎ Marked names circuits Rest EN)

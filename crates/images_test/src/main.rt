@@ -41,20 +41,24 @@ fn put_end(image: &mut Vec<u8>, count: u16) -> Result<(), AllocError> {
     image.extend_from_slice(&count.to_be_bytes())
 }
 
+// A circuit by its figures.
+fn circuit(from: u16, to: u16, bandwidth: u32, cost: u32) -> Circuit {
+    Circuit {
+        from,
+        to,
+        bandwidth,
+        cost,
+    }
+}
+
 // So many places, each by its number as a name of two bytes, and so many circuits.
 fn full(heap: Global, places: u16, circuits: u16) -> Result<Vec<u8>, AllocError> {
     let mut image = Vec::new(heap);
     for place in 0..places {
         put_place(&mut image, &place.to_be_bytes())?;
     }
-    let circuit = Circuit {
-        from: 0,
-        to: 1,
-        bandwidth: 64_000_000,
-        cost: 1_000_000,
-    };
     for _ in 0..circuits {
-        put_circuit(&mut image, circuit)?;
+        put_circuit(&mut image, circuit(0, 1, 64_000_000, 1_000_000))?;
     }
     put_end(&mut image, places.wrapping_add(circuits))?;
     Ok(image)
@@ -77,15 +81,6 @@ fn one_place(heap: Global, name: &[u8]) -> Result<Vec<u8>, AllocError> {
     Ok(image)
 }
 
-fn circuit(from: u16, to: u16, bandwidth: u32, cost: u32) -> Circuit {
-    Circuit {
-        from,
-        to,
-        bandwidth,
-        cost,
-    }
-}
-
 fn sizes(rt: &HostRuntime) -> anyhow::Result<()> {
     let heap = rt.alloc();
     load(rt, "the small image", &SMALL)?;
@@ -98,26 +93,23 @@ fn sizes(rt: &HostRuntime) -> anyhow::Result<()> {
 }
 
 fn cuts(rt: &HostRuntime) -> anyhow::Result<()> {
-    for length in 0..26usize {
+    for length in 0..SMALL.len() {
         print!(rt; "{length:2} ")?;
-        load(rt, "bytes of the small image", &SMALL[0..length])?;
+        load(rt, "bytes of the small image", &SMALL[..length])?;
     }
     Ok(())
 }
 
 fn names(rt: &HostRuntime) -> anyhow::Result<()> {
     let heap = rt.alloc();
-    load(
-        rt,
-        "a name of 16 bytes",
-        &one_place(heap, b"0123456789abcdef")?,
-    )?;
-    load(
-        rt,
-        "a name of 17 bytes",
-        &one_place(heap, b"0123456789abcdefg")?,
-    )?;
-    load(rt, "a name of no bytes", &one_place(heap, b"")?)?;
+    let cases: [(&str, &[u8]); 3] = [
+        ("a name of 16 bytes", b"0123456789abcdef"),
+        ("a name of 17 bytes", b"0123456789abcdefg"),
+        ("a name of no bytes", b""),
+    ];
+    for (asked, name) in cases {
+        load(rt, asked, &one_place(heap, name)?)?;
+    }
     load(rt, "a name twice", b"PL\x01APL\x02ABPL\x01AEN\x00\x03")?;
     load(rt, "a name and its beginning", b"PL\x02ABPL\x01AEN\x00\x02")?;
     Ok(())
@@ -125,42 +117,19 @@ fn names(rt: &HostRuntime) -> anyhow::Result<()> {
 
 fn circuits(rt: &HostRuntime) -> anyhow::Result<()> {
     let heap = rt.alloc();
-    load(
-        rt,
-        "an end that is no place",
-        &one_circuit(heap, circuit(0, 2, 1, 0))?,
-    )?;
-    load(
-        rt,
-        "a start that is no place",
-        &one_circuit(heap, circuit(2, 0, 1, 0))?,
-    )?;
-    load(
-        rt,
-        "both ends the same",
-        &one_circuit(heap, circuit(1, 1, 1, 0))?,
-    )?;
-    load(rt, "bandwidth 0", &one_circuit(heap, circuit(0, 1, 0, 0))?)?;
-    load(
-        rt,
-        "bandwidth 1, cost 0",
-        &one_circuit(heap, circuit(0, 1, 1, 0))?,
-    )?;
-    load(
-        rt,
-        "bandwidth 64,000,001",
-        &one_circuit(heap, circuit(0, 1, 64_000_001, 0))?,
-    )?;
-    load(
-        rt,
-        "cost 1,000,001",
-        &one_circuit(heap, circuit(0, 1, 1, 1_000_001))?,
-    )?;
-    load(
-        rt,
-        "bad ends and a bad figure",
-        &one_circuit(heap, circuit(5, 5, 0, 0))?,
-    )?;
+    let cases = [
+        ("an end that is no place", circuit(0, 2, 1, 0)),
+        ("a start that is no place", circuit(2, 0, 1, 0)),
+        ("both ends the same", circuit(1, 1, 1, 0)),
+        ("bandwidth 0", circuit(0, 1, 0, 0)),
+        ("bandwidth 1, cost 0", circuit(0, 1, 1, 0)),
+        ("bandwidth 64,000,001", circuit(0, 1, 64_000_001, 0)),
+        ("cost 1,000,001", circuit(0, 1, 1, 1_000_001)),
+        ("bad ends and a bad figure", circuit(5, 5, 0, 0)),
+    ];
+    for (asked, circuit) in cases {
+        load(rt, asked, &one_circuit(heap, circuit)?)?;
+    }
     Ok(())
 }
 

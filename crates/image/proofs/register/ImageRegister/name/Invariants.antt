@@ -1,7 +1,7 @@
-use Rattle.std.proofs.Common.{◌≡◌, ◌≤◌}
-use Rattle.image.specs.Layout.{after_place, place_offset}
+use Rattle.std.proofs.Common.{◌≡◌}
+use Rattle.image.specs.Layout.{place_offset}
 use Rattle.image.proofs.register.ImageRegister.name.Given as goal
 
--- the place of the loop's number begins there, and ends before the circuits
-abbrev pub invariant-loop-i : goal.invariant-loop-i
-invariant-loop-i l = (l.at ≡ place_offset l.self.image.now l.i) × (after_place l.self.image.now l.at ≤ l.self.layout.first)
+-- the place of the loop's number begins there
+abbrev pub invariant-loop : goal.invariant-loop
+invariant-loop l = l.at ≡ place_offset l.self.image.now l.counter
