@@ -27,7 +27,8 @@ fn one<V, F: FnOnce(u32) -> Order<V>>(
     make: F,
 ) -> Result<Statement<V>, Fault>
     requires { F.IsAlwaysCallable make }
-    ensures { (order : ℕ → Order V) → ((n : ℕ) (o : Order V) → F.post make n o → o ≡ order n) → Reads result (SaidOne order (texts args.now)) }
+    ensures { (order : ℕ → Order V) → ((n : ℕ) (o : Order V) → F.post make n o → o ≡ order n)
+        → Reads result (SaidOne order (texts args.now)) }
 {
     let [word] = args else {
         return Err(Fault::Words(verb));
@@ -44,7 +45,8 @@ fn two<V, F: FnOnce(u32, u32) -> Order<V>>(
     make: F,
 ) -> Result<Statement<V>, Fault>
     requires { F.IsAlwaysCallable make }
-    ensures { (order : ℕ → ℕ → Order V) → ((a b : ℕ) (o : Order V) → F.post make a b o → o ≡ order a b) → Reads result (SaidTwo order (texts args.now)) }
+    ensures { (order : ℕ → ℕ → Order V) → ((a b : ℕ) (o : Order V) → F.post make a b o → o ≡ order a b)
+        → Reads result (SaidTwo order (texts args.now)) }
 {
     let [first, second] = args else {
         return Err(Fault::Words(verb));
