@@ -1,5 +1,5 @@
 // The reading of a line.
-ghost use Rattle.std.specs.Prelude.{◌≡◌, ◌↔◌, ℕ, ◌<◌, ◌≤◌, [], length, IsTrue, MatchOption, slice_index};
+ghost use Rattle.std.specs.Prelude.{◌≡◌, ◌↔◌, ℕ, ◌<◌, ◌≤◌, [], length, IsTrue, MatchOption, slice_index, true, false};
 ghost use Rattle.words.specs.Figures.{Reads, texts};
 ghost use Rattle.orders.specs.Lines.{Blank, Inner, Splits, Next};
 ghost use Rattle.orders.specs.Meanings.{LineMeans, LinesSplit, OneMeaning};
@@ -28,25 +28,15 @@ fn is_inner(b: u8) -> bool
     b != COMMENT && !is_blank(b)
 }
 
-// How many blanks the line begins with.
-fn blanks(line: &[u8]) -> usize
+// How many bytes the line begins with that are of a kind.
+fn run_len<F: Fn(u8) -> bool>(line: &[u8], is_of_kind: F) -> usize
+    requires { F.IsAlwaysCallable is_of_kind }
     ensures within { result ≤ length line.now }
-    ensures blank { (k : ℕ) → k < result → Blank (slice_index line.now k) }
-    ensures stops { result < length line.now → Blank (slice_index line.now result) → ⊥ }
+    ensures run { (k : ℕ) → k < result → F.post is_of_kind (slice_index line.now k) true }
+    ensures stops { result < length line.now → F.post is_of_kind (slice_index line.now result) false }
 {
     line.iter()
-        .position(|b| !is_blank(*b))
-        .unwrap_or(line.len())
-}
-
-// How long the word is that the line begins with: zero where it begins with none.
-fn word_len(line: &[u8]) -> usize
-    ensures within { result ≤ length line.now }
-    ensures inner { (k : ℕ) → k < result → Inner (slice_index line.now k) }
-    ensures stops { result < length line.now → Inner (slice_index line.now result) → ⊥ }
-{
-    line.iter()
-        .position(|b| !is_inner(*b))
+        .position(|b| !is_of_kind(*b))
         .unwrap_or(line.len())
 }
 
@@ -54,8 +44,8 @@ fn word_len(line: &[u8]) -> usize
 fn next_word(line: &[u8]) -> Option<(&[u8], &[u8])>
     ensures { MatchOption result (Splits line.now []) (λ p. Next line.now p.0.now p.1.now) }
 {
-    let from = &line[blanks(line)..];
-    match word_len(from) {
+    let from = &line[run_len(line, is_blank)..];
+    match run_len(from, is_inner) {
         0 => None,
         len => Some(from.split_at(len)),
     }
