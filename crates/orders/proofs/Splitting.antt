@@ -1,9 +1,8 @@
 -- Every line has words, and just one list of them.
-use Rattle.std.proofs.Common.{◌≡◌, ℕ, ◌+◌, ◌-◌, ◌<◌, ◌≤◌, ◌⊎◌, List, [], ◌∷◌, ◌++◌, length, get_or, take, drop, set, sym, refl, ap, ◌∙◌, subst, inl, inr, ⊎_elim, append_assoc, arith, Bor}
-use Rattle.std.specs.List.{between, AllByRecursion}
+use Rattle.std.proofs.Common.{◌≡◌, ℕ, ◌+◌, ◌<◌, ◌≤◌, ◌⊎◌, List, [], ◌∷◌, ◌++◌, length, get_or, take, drop, set, sym, refl, ap, ◌∙◌, subst, inl, inr, ⊎_elim, append_assoc, arith, Bor}
+use Rattle.std.specs.List.{AllByRecursion}
 use Rattle.std.proofs.ByRecursion.{All-from_get_or}
-use Rattle.std.proofs.lemmas.List.Edits.{length-between, get_or-between}
-use Rattle.std.proofs.lemmas.List.{take-append-drop, drop-drop, drop_more, drop_all, take_more_set, map_push}
+use Rattle.std.proofs.lemmas.List.{take-append-drop, length-take-le, get_or-take, drop_more, drop_all, take_more_set, map_push}
 use Rattle.std.proofs.lemmas.Bool.{cases_eq, cases_lt}
 use Rattle.words.specs.Figures.{texts}
 use Rattle.orders.specs.Lines.{Blank, Inner, Off, Ends, Word, Splits, Next}
@@ -11,9 +10,9 @@ use Rattle.orders.specs.Lines.{Blank, Inner, Off, Ends, Word, Splits, Next}
 -- a run of bytes of a kind, up to the first byte of another, is one
 pub run_once : (P : ℕ → Type 0) (xs ys r s : List ℕ) → AllByRecursion P xs → AllByRecursion P ys → Off P r → Off P s → xs ++ r ≡ ys ++ s → (xs ≡ ys) × (r ≡ s)
 run_once P [] [] r s a b h k e = (refl, e)
-run_once P [] (y ∷ ys) [] s a b h k e = absurd (let z : ◌≡◌ {A = ℕ} 0 1 = cc in omega arith)
+run_once P [] (y ∷ ys) [] s a b h k e = absurd (cc)
 run_once P [] (y ∷ ys) (x ∷ r) s a b h k e = absurd (h (let q : y ≡ x = cc in subst P q b.0))
-run_once P (x ∷ xs) [] r [] a b h k e = absurd (let z : ◌≡◌ {A = ℕ} 0 1 = cc in omega arith)
+run_once P (x ∷ xs) [] r [] a b h k e = absurd (cc)
 run_once P (x ∷ xs) [] r (y ∷ s) a b h k e = absurd (k (let q : x ≡ y = cc in subst P q a.0))
 run_once P (x ∷ xs) (y ∷ ys) r s a b h k e =
     let q : x ≡ y = cc in
@@ -98,56 +97,46 @@ pub splits_some : (line : List ℕ) → (words : List (List ℕ)) × Splits line
 splits_some [] = ([], ([], [], refl, tt, tt))
 splits_some (b ∷ line) = by_kind b line (splits_some line) (kind b)
 
--- what stands between two places, and what comes after
-cut : (line : List ℕ) (i j : ℕ) → i ≤ j → drop i line ≡ between i j line ++ drop j line
-cut line i j h =
-    let e : i + (j - i) ≡ j = omega arith in
-    sym (take-append-drop (j - i) (drop i line)) ∙ ap (λ r. between i j line ++ r) (drop-drop (j - i) i line ∙ ap (λ n. drop n line) e)
+-- a run of bytes of a kind, read off the bytes one by one
+run_of : (P : ℕ → Type 0) (line : List ℕ) (n : ℕ) → n ≤ length line → ((k : ℕ) → k < n → P (get_or line k 0)) → AllByRecursion P (take n line)
+run_of P line n within f =
+    All-from_get_or P (take n line) 0
+    (λ k h. let l : k < n = omega (arith, length-take-le n line within) in subst P (sym (get_or-take n line k 0 l)) (f k l))
 
-all_between : (P : ℕ → Type 0) (line : List ℕ) (i j : ℕ) → j ≤ length line → ((k : ℕ) → i ≤ k → k < j → P (get_or line k 0)) → AllByRecursion P (between i j line)
-all_between P line i j within f =
-    All-from_get_or P (between i j line) 0
-    (λ k h. let l : i + k < j = omega (arith, length-between line i j within) in subst P (sym (get_or-between line i j k 0 l)) (f (i + k) (omega arith) l))
+-- and where it stops the next byte is of another
+pub run_off : (P : ℕ → Type 0) (line : List ℕ) (n : ℕ) → (n < length line → P (get_or line n 0) → ⊥) → Off P (drop n line)
+run_off P line n f =
+    ⊎_elim (λ h. subst (Off P) (sym (drop_more line n 0 h)) (f h)) (λ h. subst (Off P) (sym (drop_all n line h)) tt) (cases_lt n (length line))
 
-pub no_words : (line : List ℕ) (at i : ℕ) → at ≤ i → i ≤ length line → ((k : ℕ) → at ≤ k → k < i → Blank (get_or line k 0)) → Ends (drop i line) → Splits (drop at line) []
-no_words line at i h within f e = (between at i line, drop i line, cut line at i h, all_between Blank line at i within f, e)
+-- what stops blanks and is in no word ends the line
+ends_here : (line : List ℕ) → Off Blank line → Off Inner line → Ends line
+ends_here [] o i = tt
+ends_here (b ∷ line) o i = elim (kind b) [ inl k ↦ absurd (o k) | inr (inl e) ↦ e | inr (inr k) ↦ absurd (i k) ]
 
-pub ends_at_hash : (line : List ℕ) (i : ℕ) → i < length line → get_or line i 0 ≡ 35 → Ends (drop i line)
-ends_at_hash line i h e = subst Ends (sym (drop_more line i 0 h)) e
+-- no word after the blanks
+pub no_words : (line from : List ℕ) (n : ℕ) → n ≤ length line → ((k : ℕ) → k < n → Blank (get_or line k 0)) → Off Blank (drop n line) → from ≡ drop n line → Off Inner from → Splits line []
+no_words line from n within f o e i =
+    (take n line, drop n line, sym (take-append-drop n line), run_of Blank line n within f, ends_here (drop n line) o (subst (Off Inner) e i))
 
-pub ends_at_end : (line : List ℕ) (i : ℕ) → length line ≤ i → Ends (drop i line)
-ends_at_end line i h = subst Ends (sym (drop_all i line h)) tt
-
-off_at : (line : List ℕ) (i : ℕ) → (i < length line → Inner (get_or line i 0) → ⊥) → Off Inner (drop i line)
-off_at line i f =
-    ⊎_elim (λ h. subst (Off Inner) (sym (drop_more line i 0 h)) (f h)) (λ h. subst (Off Inner) (sym (drop_all i line h)) tt) (cases_lt i (length line))
-
-pub next_is : (line : List ℕ) (at start end : ℕ) → at ≤ start → start < length line → ((k : ℕ) → at ≤ k → k < start → Blank (get_or line k 0)) → Inner (get_or line start 0) → start ≤ end → end ≤ length line → ((k : ℕ) → start ≤ k → k < end → Inner (get_or line k 0)) → (end < length line → Inner (get_or line end 0) → ⊥) → Next line at start end
-next_is line at start end after inside blanks first order within inners stops =
-    let past : start < end = ⊎_elim (λ h. h) (λ h. let e : start ≡ end = omega arith in absurd (stops (omega arith) (subst (λ n. Inner (get_or line n 0)) e first))) (cases_lt start end) in
+-- a word after the blanks
+pub next_is : (line from : List ℕ) (n m : ℕ) → n ≤ length line → ((k : ℕ) → k < n → Blank (get_or line k 0)) → from ≡ drop n line → m ≤ length from → 0 < m → ((k : ℕ) → k < m → Inner (get_or from k 0)) → (m < length from → Inner (get_or from m 0) → ⊥) → Next line (take m from) (drop m from)
+next_is line from n m within f e inside some g stops =
+    let cut : line ≡ take n line ++ (take m from ++ drop m from) =
+    sym (take-append-drop n line) ∙ ap (λ l. take n line ++ l) (sym (take-append-drop m from ∙ e)) in
+    let long : 0 < length (take m from) = omega (arith, length-take-le m from inside) in
     record {
-      after = after;
-      some = past;
-      within = within;
-      splits = λ ws s. (
-        between at start line,
-        drop end line,
-        cut line at start after ∙ ap (λ r. between at start line ++ r) (cut line start end order),
-        all_between Blank line at start (omega arith) blanks,
-        (omega (arith, length-between line start end within), all_between Inner line start end within inners),
-        off_at line end stops,
-        s,
-      );
+      some = long;
+      within = (take n line, cut);
+      splits = λ ws s. (take n line, drop m from, cut, run_of Blank line n within f, (long, run_of Inner from m inside g), run_off Inner from m stops, s);
     }
 
 -- one more word of the line is kept
-pub words_more : (line : List ℕ) (words : List (Bor (List ℕ))) (count at start end : ℕ) (x : Bor (List ℕ)) → count < length words → x.now ≡ between start end line → Next line at start end → ((ws : List (List ℕ)) → Splits (drop at line) ws → Splits line (texts (take count words) ++ ws)) → (ws : List (List ℕ)) → Splits (drop end line) ws → Splits line (texts (take (count + 1) (set words count x)) ++ ws)
-words_more line words count at start end x h e next inv ws s =
+pub words_more : (line rest after : List ℕ) (words : List (Bor (List ℕ))) (count : ℕ) (x : Bor (List ℕ)) → count < length words → Next rest x.now after → ((ws : List (List ℕ)) → Splits rest ws → Splits line (texts (take count words) ++ ws)) → (ws : List (List ℕ)) → Splits after ws → Splits line (texts (take (count + 1) (set words count x)) ++ ws)
+words_more line rest after words count x h next inv ws s =
     let kept = texts (take count words) in
-    let same : kept ++ (between start end line ∷ ws) ≡ texts (take (count + 1) (set words count x)) ++ ws =
+    let same : kept ++ (x.now ∷ ws) ≡ texts (take (count + 1) (set words count x)) ++ ws =
     sym
     (ap (λ l. texts l ++ ws) (take_more_set words count x h)
     ∙ ap (λ l. l ++ ws) (map_push (λ y. y.now) (take count words) x)
-    ∙ append_assoc kept (x.now ∷ []) ws
-    ∙ ap (λ w. kept ++ (w ∷ ws)) e) in
-    subst (Splits line) same (inv (between start end line ∷ ws) (next.splits ws s))
+    ∙ append_assoc kept (x.now ∷ []) ws) in
+    subst (Splits line) same (inv (x.now ∷ ws) (next.splits ws s))

@@ -1,6 +1,6 @@
 -- The words of a line of bytes. Assumes nothing.
-use Rattle.std.specs.Prelude.{◌≡◌, ℕ, ◌<◌, ◌≤◌, ◌⊎◌, List, [], ◌∷◌, ◌++◌, length, drop, ◌≢◌}
-use Rattle.std.specs.List.{between, AllByRecursion}
+use Rattle.std.specs.Prelude.{◌≡◌, ℕ, ◌<◌, ◌⊎◌, List, [], ◌∷◌, ◌++◌, length, ◌≢◌}
+use Rattle.std.specs.List.{AllByRecursion}
 
 -- a space, a tab or a carriage return
 abbrev pub Blank : ℕ → Type 0
@@ -30,9 +30,8 @@ Splits line [] = (gap : List ℕ) × (rest : List ℕ) × (line ≡ gap ++ rest)
 Splits line (w ∷ ws) =
     (gap : List ℕ) × (rest : List ℕ) × (line ≡ gap ++ (w ++ rest)) × AllByRecursion Blank gap × Word w × Off Inner rest × Splits rest ws
 
--- the first word from `at` on stands from `start` up to `end`, and the words after it are those from `end` on
-pub record Next (line : List ℕ) (at start end : ℕ) : Type 0 where
-  pub after : at ≤ start
-  pub some : start < end
-  pub within : end ≤ length line
-  pub splits : (ws : List (List ℕ)) → Splits (drop end line) ws → Splits (drop at line) (between start end line ∷ ws)
+-- the line's first word, and the rest of the line after it, whose words are the others
+pub record Next (line word rest : List ℕ) : Type 0 where
+  pub some : 0 < length word
+  pub within : (gap : List ℕ) × (line ≡ gap ++ (word ++ rest))
+  pub splits : (ws : List (List ℕ)) → Splits rest ws → Splits line (word ∷ ws)

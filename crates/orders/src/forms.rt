@@ -1,5 +1,6 @@
 // The forms of the statements: a verb, and the words after it.
-ghost use Rattle.std.specs.Prelude.{◌≡◌, []};
+ghost use Rattle.std.specs.Prelude.{◌≡◌, ℕ, []};
+ghost use Rattle.calls.specs.declared.order.Order.{Order};
 ghost use Rattle.words.specs.Figures.{Reads, texts};
 ghost use Rattle.orders.specs.Meanings.{One, Two, Leads, Asks, SaidOne, SaidTwo, SaidSafest, SaidWidest, SaidBook, Said, Means};
 
@@ -8,39 +9,51 @@ use calls::{Ask, Order};
 use words::{Fault, Limit, Part, Verb, mode, numeral, place};
 
 // No words: they say the statement.
-fn bare<S: Limit>(
-    verb: Verb,
-    args: &[&[u8]],
-    said: Statement<S::Value>,
-) -> Result<Statement<S::Value>, Fault>
+fn bare<V: Copy>(verb: Verb, args: &[&[u8]], said: Statement<V>) -> Result<Statement<V>, Fault>
     ensures { Reads result (λ s. (texts args.now ≡ []) × (s ≡ said)) }
 {
-    if args.len() > 0 {
-        return Err(Fault::Words(verb));
+    if args.is_empty() {
+        Ok(said)
+    } else {
+        Err(Fault::Words(verb))
     }
-    Ok(said)
 }
 
-// One number.
-fn one(verb: Verb, part: Part, args: &[&[u8]]) -> Result<u32, Fault>
-    ensures { Reads result (One (texts args.now)) }
+// One number, of which an order is made.
+fn one<V, F: FnOnce(u32) -> Order<V>>(
+    verb: Verb,
+    part: Part,
+    args: &[&[u8]],
+    make: F,
+) -> Result<Statement<V>, Fault>
+    requires { F.IsAlwaysCallable make }
+    ensures { (order : ℕ → Order V) → ((n : ℕ) (o : Order V) → F.post make n o → o ≡ order n)
+        → Reads result (SaidOne order (texts args.now)) }
 {
-    if args.len() != 1 {
+    let [word] = args else {
         return Err(Fault::Words(verb));
-    }
-    numeral(part, args[0])
+    };
+    let n = numeral(part, word)?;
+    Ok(Statement::Order(make(n)))
 }
 
-// Two numbers.
-fn two(verb: Verb, parts: (Part, Part), args: &[&[u8]]) -> Result<(u32, u32), Fault>
-    ensures { Reads result (Two (texts args.now)) }
+// Two numbers, of which an order is made.
+fn two<V, F: FnOnce(u32, u32) -> Order<V>>(
+    verb: Verb,
+    parts: (Part, Part),
+    args: &[&[u8]],
+    make: F,
+) -> Result<Statement<V>, Fault>
+    requires { F.IsAlwaysCallable make }
+    ensures { (order : ℕ → ℕ → Order V) → ((a b : ℕ) (o : Order V) → F.post make a b o → o ≡ order a b)
+        → Reads result (SaidTwo order (texts args.now)) }
 {
-    if args.len() != 2 {
+    let [first, second] = args else {
         return Err(Fault::Words(verb));
-    }
-    let a = numeral(parts.0, args[0])?;
-    let b = numeral(parts.1, args[1])?;
-    Ok((a, b))
+    };
+    let a = numeral(parts.0, first)?;
+    let b = numeral(parts.1, second)?;
+    Ok(Statement::Order(make(a, b)))
 }
 
 // FROM TO.
@@ -71,20 +84,17 @@ fn asked(from: &[u8], to: &[u8], rate: &[u8], how: &[u8], names: &[&[u8]]) -> Re
 fn limited<S: Limit>(word: &[u8]) -> Result<S::Value, Fault>
     ensures { Reads result (S.Limit.spells word.now) }
 {
-    match S::read_limit(word) {
-        Some(limit) => Ok(limit),
-        None => Err(Fault::Limit(S::form())),
-    }
+    S::read_limit(word).ok_or(Fault::Limit(S::form()))
 }
 
 // FROM TO RATE MODE.
 fn safest<S: Limit>(args: &[&[u8]], names: &[&[u8]]) -> Result<Statement<S::Value>, Fault>
     ensures { Reads result (SaidSafest S.Limit.spells (texts names.now) (texts args.now)) }
 {
-    if args.len() != 4 {
+    let [from, to, rate, how] = args else {
         return Err(Fault::Words(Verb::Safest));
-    }
-    let ask = asked(args[0], args[1], args[2], args[3], names)?;
+    };
+    let ask = asked(from, to, rate, how, names)?;
     Ok(Statement::Order(Order::Safest(ask)))
 }
 
@@ -92,12 +102,12 @@ fn safest<S: Limit>(args: &[&[u8]], names: &[&[u8]]) -> Result<Statement<S::Valu
 fn widest<S: Limit>(args: &[&[u8]], names: &[&[u8]]) -> Result<Statement<S::Value>, Fault>
     ensures { Reads result (SaidWidest S.Limit.spells (texts names.now) (texts args.now)) }
 {
-    if args.len() != 4 {
+    let [from, to, how, limit] = args else {
         return Err(Fault::Words(Verb::Widest));
-    }
-    let (from, to) = places(args[0], args[1], names)?;
-    let mode = mode(args[2])?;
-    let limit = limited::<S>(args[3])?;
+    };
+    let (from, to) = places(from, to, names)?;
+    let mode = mode(how)?;
+    let limit = limited::<S>(limit)?;
     Ok(Statement::Order(Order::Widest {
         from,
         to,
@@ -110,61 +120,13 @@ fn widest<S: Limit>(args: &[&[u8]], names: &[&[u8]]) -> Result<Statement<S::Valu
 fn book<S: Limit>(args: &[&[u8]], names: &[&[u8]]) -> Result<Statement<S::Value>, Fault>
     ensures { Reads result (SaidBook S.Limit.spells (texts names.now) (texts args.now)) }
 {
-    if args.len() != 6 {
+    let [feed, from, to, rate, how, limit] = args else {
         return Err(Fault::Words(Verb::Book));
-    }
-    let feed = numeral(Part::Feed, args[0])?;
-    let ask = asked(args[1], args[2], args[3], args[4], names)?;
-    let limit = limited::<S>(args[5])?;
+    };
+    let feed = numeral(Part::Feed, feed)?;
+    let ask = asked(from, to, rate, how, names)?;
+    let limit = limited::<S>(limit)?;
     Ok(Statement::Order(Order::Book { feed, ask, limit }))
-}
-
-// FEED.
-fn release<V>(args: &[&[u8]]) -> Result<Statement<V>, Fault>
-    ensures { Reads result (SaidOne Order.Release (texts args.now)) }
-{
-    let feed = one(Verb::Release, Part::Feed, args)?;
-    Ok(Statement::Order(Order::Release { feed }))
-}
-
-// NOTICE CIRCUIT.
-fn close<V>(args: &[&[u8]]) -> Result<Statement<V>, Fault>
-    ensures { Reads result (SaidTwo Order.Close (texts args.now)) }
-{
-    let (notice, circuit) = two(Verb::Close, (Part::Notice, Part::Circuit), args)?;
-    Ok(Statement::Order(Order::Close { notice, circuit }))
-}
-
-// NOTICE.
-fn reopen<V>(args: &[&[u8]]) -> Result<Statement<V>, Fault>
-    ensures { Reads result (SaidOne Order.Reopen (texts args.now)) }
-{
-    let notice = one(Verb::Reopen, Part::Notice, args)?;
-    Ok(Statement::Order(Order::Reopen { notice }))
-}
-
-// CIRCUIT.
-fn left<V>(args: &[&[u8]]) -> Result<Statement<V>, Fault>
-    ensures { Reads result (SaidOne Order.Left (texts args.now)) }
-{
-    let circuit = one(Verb::Left, Part::Circuit, args)?;
-    Ok(Statement::Order(Order::Left { circuit }))
-}
-
-// CIRCUIT.
-fn open<V>(args: &[&[u8]]) -> Result<Statement<V>, Fault>
-    ensures { Reads result (SaidOne Order.Open (texts args.now)) }
-{
-    let circuit = one(Verb::Open, Part::Circuit, args)?;
-    Ok(Statement::Order(Order::Open { circuit }))
-}
-
-// FEED CIRCUIT.
-fn uses<V>(args: &[&[u8]]) -> Result<Statement<V>, Fault>
-    ensures { Reads result (SaidTwo Order.Uses (texts args.now)) }
-{
-    let (feed, circuit) = two(Verb::Uses, (Part::Feed, Part::Circuit), args)?;
-    Ok(Statement::Order(Order::Uses { feed, circuit }))
 }
 
 // What the words after the verb say.
@@ -175,14 +137,24 @@ fn told<S: Limit>(verb: Verb, args: &[&[u8]], names: &[&[u8]]) -> Result<Stateme
         Verb::Safest => safest::<S>(args, names),
         Verb::Widest => widest::<S>(args, names),
         Verb::Book => book::<S>(args, names),
-        Verb::Release => release::<S::Value>(args),
-        Verb::Close => close::<S::Value>(args),
-        Verb::Reopen => reopen::<S::Value>(args),
-        Verb::Left => left::<S::Value>(args),
-        Verb::Open => open::<S::Value>(args),
-        Verb::Uses => uses::<S::Value>(args),
-        Verb::Routes => bare::<S>(verb, args, Statement::Routes),
-        Verb::Map => bare::<S>(verb, args, Statement::Map),
+        Verb::Release => one(verb, Part::Feed, args, |feed| Order::Release { feed }),
+        Verb::Close => two(
+            verb,
+            (Part::Notice, Part::Circuit),
+            args,
+            |notice, circuit| Order::Close { notice, circuit },
+        ),
+        Verb::Reopen => one(verb, Part::Notice, args, |notice| Order::Reopen { notice }),
+        Verb::Left => one(verb, Part::Circuit, args, |circuit| Order::Left { circuit }),
+        Verb::Open => one(verb, Part::Circuit, args, |circuit| Order::Open { circuit }),
+        Verb::Uses => two(
+            verb,
+            (Part::Feed, Part::Circuit),
+            args,
+            |feed, circuit| Order::Uses { feed, circuit },
+        ),
+        Verb::Routes => bare(verb, args, Statement::Routes),
+        Verb::Map => bare(verb, args, Statement::Map),
     }
 }
 
@@ -190,11 +162,9 @@ fn told<S: Limit>(verb: Verb, args: &[&[u8]], names: &[&[u8]]) -> Result<Stateme
 pub fn statement<S: Limit>(words: &[&[u8]], names: &[&[u8]]) -> Result<Statement<S::Value>, Fault>
     ensures { Reads result (Means S.Limit.spells (texts names.now) (texts words.now)) }
 {
-    if words.len() == 0 {
+    let [verb, args @ ..] = words else {
         return Ok(Statement::Blank);
-    }
-    let Some(verb) = Verb::of(words[0]) else {
-        return Err(Fault::Verb);
     };
-    told::<S>(verb, &words[1..words.len()], names)
+    let verb = Verb::try_from(*verb)?;
+    told::<S>(verb, args, names)
 }

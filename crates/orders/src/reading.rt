@@ -1,5 +1,5 @@
 // The reading of a line.
-ghost use Rattle.std.specs.Prelude.{◌≡◌, ℕ, ◌<◌, ◌≤◌, [], length, drop, Some, None, Decides, slice_index};
+ghost use Rattle.std.specs.Prelude.{◌≡◌, ◌↔◌, ℕ, ◌<◌, ◌≤◌, [], length, IsTrue, MatchOption, slice_index, true, false};
 ghost use Rattle.words.specs.Figures.{Reads, texts};
 ghost use Rattle.orders.specs.Lines.{Blank, Inner, Splits, Next};
 ghost use Rattle.orders.specs.Meanings.{LineMeans, LinesSplit, OneMeaning};
@@ -16,56 +16,39 @@ const MAX_WORDS: usize = 8;
 
 // Whether the byte is a blank.
 fn is_blank(b: u8) -> bool
-    ensures { Decides result (Blank b) }
+    ensures { IsTrue result ↔ (Blank b) }
 {
-    b == b' ' || b == b'\t' || b == b'\r'
+    matches!(b, b' ' | b'\t' | b'\r')
 }
 
-// Where the first word from `at` on begins, or nothing where there is none.
-fn word_start(line: &[u8], at: usize) -> Option<usize>
-    requires { at ≤ length line.now }
-    ensures { elim result [ None ↦ Splits (drop at line.now) [] | Some i ↦ (at ≤ i) × (i < length line.now) × ((k : ℕ) → at ≤ k → k < i → Blank (slice_index line.now k)) × Inner (slice_index line.now i) ] }
+// Whether the byte may stand in a word.
+fn is_inner(b: u8) -> bool
+    ensures { IsTrue result ↔ (Inner b) }
 {
-    for i in at..line.len() {
-        if line[i] == COMMENT {
-            return None;
-        }
-        if !is_blank(line[i]) {
-            return Some(i);
-        }
+    b != COMMENT && !is_blank(b)
+}
+
+// How many bytes the line begins with that are of a kind.
+fn run_len<F: Fn(u8) -> bool>(line: &[u8], is_of_kind: F) -> usize
+    requires { F.IsAlwaysCallable is_of_kind }
+    ensures within { result ≤ length line.now }
+    ensures run { (k : ℕ) → k < result → F.post is_of_kind (slice_index line.now k) true }
+    ensures stops { result < length line.now → F.post is_of_kind (slice_index line.now result) false }
+{
+    line.iter()
+        .position(|b| !is_of_kind(*b))
+        .unwrap_or(line.len())
+}
+
+// The first word of the line and what comes after it, or nothing where there is none.
+fn next_word(line: &[u8]) -> Option<(&[u8], &[u8])>
+    ensures { MatchOption result (Splits line.now []) (λ p. Next line.now p.0.now p.1.now) }
+{
+    let from = &line[run_len(line, is_blank)..];
+    match run_len(from, is_inner) {
+        0 => None,
+        len => Some(from.split_at(len)),
     }
-    None
-}
-
-// Where the word that begins at `start` ends.
-fn word_end(line: &[u8], start: usize) -> usize
-    requires { start ≤ length line.now }
-    ensures within { (start ≤ result) × (result ≤ length line.now) }
-    ensures word { (k : ℕ) → start ≤ k → k < result → Inner (slice_index line.now k) }
-    ensures stops { result < length line.now → Inner (slice_index line.now result) → ⊥ }
-{
-    for i in start..line.len() {
-        let b = line[i];
-        if b == COMMENT {
-            return i;
-        }
-        if is_blank(b) {
-            return i;
-        }
-    }
-    line.len()
-}
-
-// The first word from `at` on, by its start and its end, or nothing where there is none.
-fn next_word(line: &[u8], at: usize) -> Option<(usize, usize)>
-    requires { at ≤ length line.now }
-    ensures { elim result [ None ↦ Splits (drop at line.now) [] | Some p ↦ Next line.now at p.0 p.1 ] }
-{
-    let Some(start) = word_start(line, at) else {
-        return None;
-    };
-    let end = word_end(line, start);
-    Some((start, end))
 }
 
 // What the line says: its words mean the statement, and at a fault they mean none. `names` are the names of the places in
@@ -73,30 +56,26 @@ fn next_word(line: &[u8], at: usize) -> Option<(usize, usize)>
 pub fn read<S: Limit>(line: &[u8], names: &[&[u8]]) -> Result<Statement<S::Value>, Fault>
     ensures { Reads result (LineMeans S.Limit.spells (texts names.now) line.now) }
 {
-    let mut words: [&[u8]; MAX_WORDS] = [line; MAX_WORDS];
+    let mut words: [&[u8]; MAX_WORDS] = [&[]; MAX_WORDS];
     let mut count = 0;
-    let mut at = 0;
+    let mut rest = line;
     while count < MAX_WORDS {
-        let Some((start, end)) = next_word(line, at) else {
+        let Some((word, after)) = next_word(rest) else {
             break;
         };
-        words[count] = &line[start..end];
+        words[count] = word;
         count += 1;
-        at = end;
+        rest = after;
     }
-    statement::<S>(&words[0..count], names)
+    statement::<S>(&words[..count], names)
 }
 
 // Every line has words, whatever its bytes are, and just one list of words.
-pub fn lines_split() -> u8
+pub fn lines_split()
     ensures { LinesSplit }
-{
-    1
-}
+{}
 
 // A line says one statement at most.
-pub fn line_means_one<S: Limit>() -> u8
+pub fn line_means_one<S: Limit>()
     ensures { OneMeaning S.Limit.spells }
-{
-    1
-}
+{}

@@ -4,7 +4,7 @@ use Rattle.std.proofs.Common.{inl, inr, arith}
 use Rattle.std.proofs.lemmas.Bool.{leb-true, le-leb, ltb-true, lt-ltb, eq-eqb, eqb-true, cases_lt, and_parts, and_from, or_cases, or_left, or_right, cond_both}
 use Rattle.std.proofs.lemmas.Bool.Decides.{nat_tests}
 use Rattle.scale.specs.Measure.{Lawful}
-use Rattle.scale.specs.ThreeScales.{most, total, worst, tally, tally_join, tally_at_most}
+use Rattle.scale.specs.ThreeScales.{most, numbers, total, worst, tally, tally_join, tally_at_most}
 
 leb_total : (x y : ℕ) → (nat_le x y ≡ true) ⊎ (nat_le y x ≡ true)
 leb_total x y = elim (cases_lt x y) [ inl h ↦ inl (le-leb x y (omega arith)) | inr h ↦ inr (le-leb y x h) ]
@@ -12,33 +12,30 @@ leb_total x y = elim (cases_lt x y) [ inl h ↦ inl (le-leb x y (omega arith)) |
 leb_trans : (x y z : ℕ) → nat_le x y ≡ true → nat_le y z ≡ true → nat_le x z ≡ true
 leb_trans x y z p q = le-leb x z (omega (arith, leb-true x y p, leb-true y z q))
 
-pub total_lawful : Lawful total
-total_lawful = record {
+-- what a scale of numbers has to show: what joining is keeps to the numbers, and has the laws
+numbers_lawful : (join : ℕ → ℕ → ℕ) → ((x y : ℕ) → x ≤ most → y ≤ most → join x y ≤ most) → ((x y z : ℕ) → x ≤ most → y ≤ most → z ≤ most → join (join x y) z ≡ join x (join y z)) → ((x y : ℕ) → join x y ≡ join y x) → ((x : ℕ) → x ≤ most → join 0 x ≡ x) → ((x y z : ℕ) → x ≤ y → join z x ≤ join z y) → Lawful (numbers join)
+numbers_lawful join within associative commutative neutral keeps = record {
   zero_value = omega arith;
   weight_value = λ c h. omega arith;
-  join_value = λ x y p q. omega arith;
+  join_value = within;
   compares = λ x y p q. leb_total x y;
   transitive = λ x y z p q r. leb_trans x y z;
-  associative = λ x y z p q r. omega arith;
-  commutative = λ x y p q. omega arith;
-  neutral = λ x p. omega arith;
+  associative = associative;
+  commutative = λ x y p q. commutative x y;
+  neutral = neutral;
   least = λ x p. le-leb 0 x (omega arith);
-  keeps = λ x y z p q r h. le-leb (min (z + x) most) (min (z + y) most) (omega (arith, leb-true x y h));
+  keeps = λ x y z p q r h. le-leb (join z x) (join z y) (keeps x y z (leb-true x y h));
 }
 
+pub total_lawful : Lawful total
+total_lawful =
+    numbers_lawful (λ x y. min (x + y) most)
+    (λ x y p q. omega arith) (λ x y z p q r. omega arith) (λ x y. omega arith) (λ x p. omega arith) (λ x y z h. omega arith)
+
 pub worst_lawful : Lawful worst
-worst_lawful = record {
-  zero_value = omega arith;
-  weight_value = λ c h. omega arith;
-  join_value = λ x y p q. omega arith;
-  compares = λ x y p q. leb_total x y;
-  transitive = λ x y z p q r. leb_trans x y z;
-  associative = λ x y z p q r. omega arith;
-  commutative = λ x y p q. omega arith;
-  neutral = λ x p. omega arith;
-  least = λ x p. le-leb 0 x (omega arith);
-  keeps = λ x y z p q r h. le-leb (max z x) (max z y) (omega (arith, leb-true x y h));
-}
+worst_lawful =
+    numbers_lawful max
+    (λ x y p q. omega arith) (λ x y z p q r. omega arith) (λ x y. omega arith) (λ x p. omega arith) (λ x y z h. omega arith)
 
 -- what a join of tallies is, as facts
 Value : ℕ × ℕ → Type 0

@@ -14,16 +14,16 @@ pub enum Part {
     Circuit,
 }
 
-impl Part {
-    fn text(self) -> &'static str {
-        match self {
+impl fmt::Display for Part {
+    fn fmt<W: fmt::Write>(&self, f: &mut fmt::Formatter<W>) -> fmt::Result {
+        f.write_str(match self {
             Part::From => "FROM",
             Part::To => "TO",
             Part::Rate => "RATE",
             Part::Feed => "FEED",
             Part::Notice => "NOTICE",
             Part::Circuit => "CIRCUIT",
-        }
+        })
     }
 }
 
@@ -44,26 +44,17 @@ pub enum Fault {
     Limit(Form),
 }
 
-impl Fault {
-    // What is wrong, and how, for people.
-    fn text(self) -> (&'static str, &'static str) {
-        match self {
-            Fault::Verb => (
-                "unknown verb, expected ",
-                "safest, widest, book, release, close, reopen, left, open, uses, routes or map",
-            ),
-            Fault::Words(verb) => (verb.usage(), ""),
-            Fault::Number(part) => (part.text(), " is no number of 32 bits"),
-            Fault::Name(part) => (part.text(), " is no number, and no place has that name"),
-            Fault::Mode => ("MODE", " is neither 1+1 nor 1:1"),
-            Fault::Limit(form) => ("LIMIT is no ", form.text()),
-        }
-    }
-}
-
 impl fmt::Display for Fault {
     fn fmt<W: fmt::Write>(&self, f: &mut fmt::Formatter<W>) -> fmt::Result {
-        let (what, how) = self.text();
-        write!(f, "{what}{how}")
+        match self {
+            Fault::Verb => f.write_str(
+                "unknown verb, expected safest, widest, book, release, close, reopen, left, open, uses, routes or map",
+            ),
+            Fault::Words(verb) => write!(f, "{verb}"),
+            Fault::Number(part) => write!(f, "{part} is no number of 32 bits"),
+            Fault::Name(part) => write!(f, "{part} is no number, and no place has that name"),
+            Fault::Mode => f.write_str("MODE is neither 1+1 nor 1:1"),
+            Fault::Limit(form) => write!(f, "LIMIT is no {form}"),
+        }
     }
 }

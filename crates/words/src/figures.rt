@@ -1,31 +1,20 @@
 // The reading of single words: numbers, places and modes.
-ghost use Rattle.std.specs.Prelude.{◌≡◌, ℕ, ◌+◌, ◌-◌, ◌*◌, ◌^◌, ◌<◌, Decides};
+ghost use Rattle.std.specs.Prelude.{◌≡◌, ◌↔◌, ◌+◌, ◌-◌, ◌*◌, ◌^◌, ◌<◌, IsTrue, position};
+ghost use Rattle.std.specs.Str.{bytes_eq};
 ghost use Rattle.std.specs.List.{AllByRecursion};
 ghost use Rattle.words.specs.Figures.{Reads, Found, Digit, Numeral, Named, Place, mode_text, texts};
 
 use crate::faults::{Fault, Part};
-use crate::texts::same;
 use promise::Mode;
-
-// Whether the byte is a digit.
-fn is_digit(b: u8) -> bool
-    ensures { Decides result (Digit b) }
-{
-    b >= b'0' && b <= b'9'
-}
 
 // The number with one more digit, where the byte is one and there is such a number of 32 bits.
 fn with_digit(n: u32, b: u8) -> Option<u32>
     ensures { Found result (λ m. Digit b × (m ≡ n * 10 + (b - 48)) × (m < 2 ^ 32)) }
 {
-    if !is_digit(b) {
+    if !b.is_ascii_digit() {
         return None;
     }
-    let more = u64::from(n) * 10 + u64::from(b - b'0');
-    if more > u64::from(u32::MAX) {
-        return None;
-    }
-    Some(more as u32)
+    n.checked_mul(10)?.checked_add(u32::from(b - b'0'))
 }
 
 // The number that the word writes, or nothing where it is no number of 32 bits.
@@ -37,39 +26,30 @@ pub fn number(word: &[u8]) -> Option<u32>
     }
     let mut n = 0;
     for b in word {
-        let Some(more) = with_digit(n, *b) else {
-            return None;
-        };
-        n = more;
+        n = with_digit(n, *b)?;
     }
     Some(n)
 }
 
 // Whether the word is all digits.
 fn all_digits(word: &[u8]) -> bool
-    ensures { Decides result (AllByRecursion Digit word.now) }
+    ensures { IsTrue result ↔ (AllByRecursion Digit word.now) }
 {
-    for b in word {
-        if !is_digit(*b) {
-            return false;
-        }
-    }
-    true
+    word.iter().all(|b| b.is_ascii_digit())
+}
+
+// Where the first place of that name stands.
+fn first_named(word: &[u8], names: &[&[u8]]) -> Option<usize>
+    ensures { result ≡ position (λ name. bytes_eq name.now word.now) names.now }
+{
+    names.iter().position(|name| *name == word)
 }
 
 // The number of the first place of that name.
 fn named(word: &[u8], names: &[&[u8]]) -> Option<u32>
     ensures { Found result (Named (texts names.now) word.now) }
 {
-    for (i, name) in names.iter().enumerate() {
-        if same(*name, word) {
-            return match u32::try_from(i) {
-                Ok(number) => Some(number),
-                Err(_) => None,
-            };
-        }
-    }
-    None
+    u32::try_from(first_named(word, names)?).ok()
 }
 
 // The place that the word names, by its number or its name.
@@ -79,31 +59,23 @@ pub fn place(part: Part, word: &[u8], names: &[&[u8]]) -> Result<u32, Fault>
     if all_digits(word) {
         return numeral(part, word);
     }
-    match named(word, names) {
-        Some(number) => Ok(number),
-        None => Err(Fault::Name(part)),
-    }
+    named(word, names).ok_or(Fault::Name(part))
 }
 
 // The number that the word writes.
 pub fn numeral(part: Part, word: &[u8]) -> Result<u32, Fault>
     ensures { Reads result (Numeral 32 word.now) }
 {
-    match number(word) {
-        Some(n) => Ok(n),
-        None => Err(Fault::Number(part)),
-    }
+    number(word).ok_or(Fault::Number(part))
 }
 
 // The mode that the word names.
 pub fn mode(word: &[u8]) -> Result<Mode, Fault>
     ensures { Reads result (λ m. word.now ≡ mode_text m) }
 {
-    if same(word, b"1+1") {
-        return Ok(Mode::OnePlusOne);
+    match word {
+        b"1+1" => Ok(Mode::OnePlusOne),
+        b"1:1" => Ok(Mode::OneToOne),
+        _ => Err(Fault::Mode),
     }
-    if same(word, b"1:1") {
-        return Ok(Mode::OneToOne);
-    }
-    Err(Fault::Mode)
 }

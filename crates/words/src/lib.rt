@@ -4,10 +4,9 @@
 mod faults;
 mod figures;
 mod limit;
-mod texts;
 mod verbs;
 
 pub use faults::{Fault, Part};
 pub use figures::{mode, numeral, place};
-pub use limit::{Form, Limit};
+pub use limit::{Form, Limit, OneNumber};
 pub use verbs::Verb;

@@ -6,6 +6,7 @@ ghost use Rattle.words.specs.Tallies.{tally_single};
 
 use crate::figures::number;
 use scale::{Scale, Tally, Total, Worst};
+use std::fmt;
 
 // What a limit of a scale looks like.
 #[derive(Clone, Copy)]
@@ -14,12 +15,12 @@ pub enum Form {
     CountAndTotal,
 }
 
-impl Form {
-    pub fn text(self) -> &'static str {
-        match self {
+impl fmt::Display for Form {
+    fn fmt<W: fmt::Write>(&self, f: &mut fmt::Formatter<W>) -> fmt::Result {
+        f.write_str(match self {
             Form::Number => "number of 32 bits",
             Form::CountAndTotal => "COUNT:TOTAL, a number of 16 bits and one of 32 bits",
-        }
+        })
     }
 }
 
@@ -38,21 +39,14 @@ pub trait Limit: Scale {
     ghost single: { Single spells };
 }
 
-impl Limit for Total {
-    ghost spells = { Numeral 32 };
+// A scale whose values are numbers of 32 bits.
+pub trait OneNumber: Scale<Value = u32> {}
 
-    ghost single = { numeral_single 32 };
+impl OneNumber for Total {}
 
-    fn read_limit(word: &[u8]) -> Option<u32> {
-        number(word)
-    }
+impl OneNumber for Worst {}
 
-    fn form() -> Form {
-        Form::Number
-    }
-}
-
-impl Limit for Worst {
+impl<S: OneNumber> Limit for S {
     ghost spells = { Numeral 32 };
 
     ghost single = { numeral_single 32 };
@@ -70,23 +64,14 @@ impl Limit for Worst {
 fn colon(word: &[u8]) -> Option<usize>
     ensures { Found result (FirstColon word.now) }
 {
-    for (i, b) in word.iter().enumerate() {
-        if *b == b':' {
-            return Some(i);
-        }
-    }
-    None
+    word.iter().position(|b| *b == b':')
 }
 
 // The number that the word writes, or nothing where it is no number of 16 bits.
 fn small_number(word: &[u8]) -> Option<u16>
     ensures { Found result (Numeral 16 word.now) }
 {
-    let n = number(word)?;
-    match u16::try_from(n) {
-        Ok(small) => Some(small),
-        Err(_) => None,
-    }
+    u16::try_from(number(word)?).ok()
 }
 
 impl Limit for Tally {
@@ -96,8 +81,8 @@ impl Limit for Tally {
 
     fn read_limit(word: &[u8]) -> Option<(u16, u32)> {
         let i = colon(word)?;
-        let count = small_number(&word[0..i])?;
-        let total = number(&word[i + 1..word.len()])?;
+        let count = small_number(&word[..i])?;
+        let total = number(&word[i + 1..])?;
         Some((count, total))
     }
 

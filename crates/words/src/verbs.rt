@@ -1,9 +1,10 @@
 // The first word of an order.
 ghost use Rattle.std.specs.Prelude.{◌≡◌};
-ghost use Rattle.words.specs.Figures.{Found};
+ghost use Rattle.words.specs.Figures.{Reads};
 ghost use Rattle.words.specs.Verbs.{verb_text};
 
-use crate::texts::same;
+use crate::faults::Fault;
+use std::fmt;
 
 #[derive(Clone, Copy)]
 pub enum Verb {
@@ -20,50 +21,34 @@ pub enum Verb {
     Map,
 }
 
-impl Verb {
-    // The verb that the word is, or nothing where it is none.
-    pub fn of(word: &[u8]) -> Option<Verb>
-        ensures { Found result (λ v. word.now ≡ verb_text v) }
-    {
-        if same(word, b"safest") {
-            return Some(Verb::Safest);
-        }
-        if same(word, b"widest") {
-            return Some(Verb::Widest);
-        }
-        if same(word, b"book") {
-            return Some(Verb::Book);
-        }
-        if same(word, b"release") {
-            return Some(Verb::Release);
-        }
-        if same(word, b"close") {
-            return Some(Verb::Close);
-        }
-        if same(word, b"reopen") {
-            return Some(Verb::Reopen);
-        }
-        if same(word, b"left") {
-            return Some(Verb::Left);
-        }
-        if same(word, b"open") {
-            return Some(Verb::Open);
-        }
-        if same(word, b"uses") {
-            return Some(Verb::Uses);
-        }
-        if same(word, b"routes") {
-            return Some(Verb::Routes);
-        }
-        if same(word, b"map") {
-            return Some(Verb::Map);
-        }
-        None
-    }
+// The verb that the word is.
+impl TryFrom<&[u8]> for Verb {
+    type Error = Fault;
 
-    // What the verb takes, for people.
-    pub fn usage(self) -> &'static str {
-        match self {
+    ghost try_from_gives = { λ word r. Reads r (λ v. word.now ≡ verb_text v) };
+
+    fn try_from(word: &[u8]) -> Result<Self, Fault> {
+        match word {
+            b"safest" => Ok(Verb::Safest),
+            b"widest" => Ok(Verb::Widest),
+            b"book" => Ok(Verb::Book),
+            b"release" => Ok(Verb::Release),
+            b"close" => Ok(Verb::Close),
+            b"reopen" => Ok(Verb::Reopen),
+            b"left" => Ok(Verb::Left),
+            b"open" => Ok(Verb::Open),
+            b"uses" => Ok(Verb::Uses),
+            b"routes" => Ok(Verb::Routes),
+            b"map" => Ok(Verb::Map),
+            _ => Err(Fault::Verb),
+        }
+    }
+}
+
+// The verb, and the words that it takes.
+impl fmt::Display for Verb {
+    fn fmt<W: fmt::Write>(&self, f: &mut fmt::Formatter<W>) -> fmt::Result {
+        f.write_str(match self {
             Verb::Safest => "safest takes 4 words, FROM TO RATE MODE",
             Verb::Widest => "widest takes 4 words, FROM TO MODE LIMIT",
             Verb::Book => "book takes 6 words, FEED FROM TO RATE MODE LIMIT",
@@ -75,6 +60,6 @@ impl Verb {
             Verb::Uses => "uses takes 2 words, FEED CIRCUIT",
             Verb::Routes => "routes takes no words",
             Verb::Map => "map takes no words",
-        }
+        })
     }
 }

@@ -1,25 +1,15 @@
-use Rattle.std.proofs.Common.{sym, refl, ◌∙◌, subst, arith, below_more}
-use Rattle.std.proofs.lemmas.Bool.{false≢true}
-use Rattle.words.specs.Figures.{Named, texts}
-use Rattle.words.proofs.Naming.{text_at, texts_length}
+use Rattle.std.proofs.Common.{◌≡◌, None, sym, subst}
+use Rattle.words.specs.Figures.{Found, Named, texts}
+use Rattle.words.proofs.Founding.{found_nothing}
+use Rattle.words.proofs.Naming.{named_found, named_number}
 use Rattle.words.proofs.figures.named.Goals as goal
 
-pub loop-i-preserved : goal.loop-i-preserved
-loop-i-preserved c =
-    below_more _ _ c.loop-i.invariant
-    (λ e. false≢true (c.if-same.ensures.1 (sym (text_at c.args.names.now c.loop-i.i _ c.loop-i-test.true) ∙ e)))
-
-pub returns-in-Ok : goal.returns-in-Ok
-returns-in-Ok c =
-    subst (Named (texts c.args.names.now) c.args.word.now) (sym c.in-Ok.ensures.1) (
-      omega (arith, texts_length c.args.names.now, c.loop-i-test.true),
-      text_at c.args.names.now c.loop-i.i _ c.loop-i-test.true ∙ c.if-same.ensures.0 refl,
-      c.loop-i.invariant,
-      c.in-Ok.ensures.0,
-    )
-
-pub returns-in-Err : goal.returns-in-Err
-returns-in-Err c = λ x h. c.loop-i.invariant x (omega (arith, c.in-Err.ensures, h.3)) h.1
+pub returns-in_err-first_named : goal.returns-in_err-first_named
+returns-in_err-first_named c =
+    found_nothing _ _ c.from_residual.ensures
+    (λ x h. let none : c.first_named.result ≡ None = c.in_err-first_named.was in cc (named_found c.args.names.now c.args.word.now x h))
 
 pub returns : goal.returns
-returns c = λ x h. c.loop-i.invariant x (omega (arith, texts_length c.args.names.now, c.loop-i-test.false, h.0)) h.1
+returns c =
+    subst (λ r. Found r (Named (texts c.args.names.now) c.args.word.now)) (sym c.ok.ensures.value)
+    (named_number c.args.names.now c.args.word.now c.in_ok-first_named.field-0 c.try_from.result (sym c.in_ok-first_named.ensures) c.try_from.ensures)
