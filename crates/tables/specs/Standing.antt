@@ -1,6 +1,8 @@
 -- What the tables stand for: a ledger, and the bandwidth left on each circuit. Assumes nothing.
 use Rattle.std.specs.Prelude.{◌≡◌, ℕ, ◌+◌, ◌<◌, List, [], ◌∷◌, map, length, get_or, take, vec_items, vec_len, slice_index_or}
 use Rattle.std.specs.Vec.{with_item}
+use Rattle.std.proofs.Props.{props}
+use Rattle.std.specs.Coded.{×_prop, →_prop, Unit-prop}
 use Rattle.network.specs.Network.{Network, circuit}
 use Rattle.promise.specs.declared.Mode.TheVariants.{OnePlusOne}
 use Rattle.promise.specs.Ledger as ledger
@@ -69,3 +71,12 @@ pub record Keeps (n : Network) (t : Tables) : Type 0 where
   pub balanced : (c : ℕ) → c < length n.circuits → left_at t c + taken (ledger_of t).feeds c ≡ (circuit n c).bandwidth
   pub feeds_apart : Apart feed_number (ledger_of t).feeds
   pub notices_apart : Apart notice_number (ledger_of t).notices
+
+-- that a list's numbers stand once each has one proof at most
+pub Apart-prop : {A : Type 0} (number : A → ℕ) (xs : List A) → IsProp (Apart number xs)
+Apart-prop number [] = Unit-prop
+Apart-prop number (x ∷ xs) = ×_prop (→_prop (λ a b. absurd a)) (Apart-prop number xs)
+
+-- that tables are those of a book over a network has one proof at most, so a ghost field may say it
+pub Keeps-prop : (n : Network) (t : Tables) → IsProp (Keeps n t)
+Keeps-prop n t = Prim.hlevel (Apart-prop, props)
