@@ -1,6 +1,8 @@
 -- Which circuits the standing notices name. Assumes nothing.
-use Rattle.std.proofs.Common.{◌≡◌, ℕ, true, false, eqb, List, [], ◌∷◌, map, sym, inl, inr}
+use Rattle.std.proofs.Common.{◌≡◌, ℕ, true, false, eqb, List, [], ◌∷◌, map, sym, refl, ap, ◌∙◌, ◌||◌, inl, inr, arith}
+use Rattle.std.specs.List.{list_any}
 use Rattle.std.proofs.lemmas.Bool.{or_parts, or_cases, eqb-true, eqb-false, false≢true}
+use Rattle.std.proofs.lemmas.Bool.Decides.{nat_tests}
 use Rattle.network.specs.Routes.{Each, uses}
 use Rattle.promise.specs.Ledger as ledger
 use Rattle.tables.specs.declared.rows.Notice.{Notice}
@@ -9,6 +11,14 @@ use Rattle.tables.specs.Standing.{notice_of}
 -- the circuits that the notices name
 abbrev pub named : List Notice → List ℕ
 named xs = map (λ (x : Notice). x.circuit) xs
+
+eqb_sym : (a b : ℕ) → eqb a b ≡ eqb b a
+eqb_sym a b = grind (arith, nat_tests)
+
+-- a notice names the circuit where the circuit is one of those named
+pub named_any : (c : ℕ) (xs : List Notice) → list_any (λ x. eqb x.circuit c) xs ≡ uses c (named xs)
+named_any c [] = refl
+named_any c (x ∷ xs) = ap (λ b. b || list_any (λ x. eqb x.circuit c) xs) (eqb_sym x.circuit c) ∙ ap (λ b. eqb c x.circuit || b) (named_any c xs)
 
 -- no notice of the list names the circuit
 abbrev pub Unnamed : ℕ → List Notice → Type 0

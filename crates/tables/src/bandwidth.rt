@@ -7,8 +7,8 @@ ghost use Rattle.tables.specs.contracts.rows.CircuitState.{the_row as circuit_ro
 ghost use Rattle.tables.specs.contracts.rows.Tables.{the_row as tables_row};
 ghost use Rattle.tables.specs.Standing.{feed_of, left_at, taken_by, idle, with_circuit};
 
+use crate::route::marks;
 use crate::rows::{CircuitState, Feed, Tables};
-use crate::tables::marks;
 use promise::Mode;
 
 impl Tables {
