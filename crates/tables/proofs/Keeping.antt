@@ -1,5 +1,5 @@
 -- What is added and struck out leaves the tables those of a book over the same network. Assumes nothing.
-use Rattle.std.proofs.Common.{◌≡◌, ℕ, zero, suc, ◌+◌, ◌-◌, ◌<◌, ◌≤◌, List, [], ◌∷◌, ◌++◌, map, length, get_or, vec_items, vec_len, sym, refl, ap, ◌∙◌, subst, arith}
+use Rattle.std.proofs.Common.{◌≡◌, ℕ, zero, suc, ◌+◌, ◌-◌, ◌^◌, ◌<◌, ◌≤◌, min, List, [], ◌∷◌, ◌++◌, map, length, get_or, vec_items, vec_len, sym, refl, ap, ◌∙◌, subst, arith}
 use Rattle.std.specs.List.{remove}
 use Rattle.network.specs.Network.{Network, Proper}
 use Rattle.promise.specs.Ledger as ledger
@@ -8,7 +8,6 @@ use Rattle.promise.specs.Promise.{Stands, feed_number, notice_number}
 use Rattle.tables.specs.declared.rows.Tables.{Tables}
 use Rattle.tables.specs.Standing.{Apart, Keeps, idle, ledger_of, left_at, taken_by, feed_at, no_feed}
 use Rattle.tables.proofs.Numbers.{apart_push, apart_removed}
-use Rattle.tables.proofs.Taking.{More}
 
 pub map_removed : {A B : Type 0} (f : A → B) (xs : List A) (i : ℕ) → map f (remove xs i) ≡ remove (map f xs) i
 map_removed f [] zero = refl
@@ -41,7 +40,7 @@ module _ (n : Network) (old new : Tables) (long : vec_len new.circuits ≡ vec_l
   }
 
   pub keeps_struck : Proper n → (i : ℕ) → i < length (ledger_of old).feeds → (ledger_of new).feeds ≡ remove (ledger_of old).feeds i → (ledger_of new).notices ≡ (ledger_of old).notices
-      → ((c : ℕ) → c < vec_len old.circuits → More old (feed_at old i) c (left_at new c))
+      → ((c : ℕ) → c < vec_len old.circuits → left_at new c ≡ min (left_at old c + taken_by (feed_at old i) c) (2 ^ 32 - 1))
       → Keeps n new
   keeps_struck proper i here feeds notices left = record {
     long = long ∙ keeps.long;

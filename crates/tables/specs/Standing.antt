@@ -59,6 +59,12 @@ left_at t c = (get_or (vec_items t.circuits) c idle).left
 abbrev pub with_circuit : Tables → ℕ → CircuitState → Tables
 with_circuit t c w = record { circuits = with_item t.circuits c w; feeds = t.feeds; notices = t.notices; few_circuits = t.few_circuits; few_feeds = t.few_feeds; few_notices = t.few_notices; feed_room = t.feed_room; notice_room = t.notice_room }
 
+-- there are as many circuits, and the same feeds and notices stand: only what is left on the circuits may differ
+pub record SameButLeft (old new : Tables) : Type 0 where
+  pub circuits : vec_len new.circuits ≡ vec_len old.circuits
+  pub feeds : new.feeds ≡ old.feeds
+  pub notices : new.notices ≡ old.notices
+
 -- no two records of the list have the same number
 abbrev pub Apart : {A : Type 0} → (A → ℕ) → List A → Type 0
 Apart number [] = Unit {0}

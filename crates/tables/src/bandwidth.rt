@@ -5,11 +5,12 @@ ghost use Rattle.network.specs.Routes.{uses};
 ghost use Rattle.promise.specs.Ledger.{takes};
 ghost use Rattle.tables.specs.contracts.rows.CircuitState.{the_row as circuit_row};
 ghost use Rattle.tables.specs.contracts.rows.Tables.{the_row as tables_row};
-ghost use Rattle.tables.specs.Standing.{feed_of, left_at, taken_by, idle, with_circuit};
+ghost use Rattle.tables.specs.Standing.{feed_of, left_at, taken_by, idle, with_circuit, SameButLeft};
 
 use crate::route::marks;
-use crate::rows::{CircuitState, Feed, Tables};
+use crate::rows::{CircuitState, Feed, MAX_CIRCUITS, Tables};
 use promise::Mode;
+use std::array;
 
 impl Tables {
     // Lends one circuit's state: the tables then have it as it is given back, and all else as it was.
@@ -21,36 +22,44 @@ impl Tables {
         &mut self.circuits[circuit]
     }
 
+    // Changes what is left on each circuit by what the feed takes there.
+    fn change_left<F: Fn(u32, u32) -> u32>(&mut self, feed: &Feed, change: F)
+        requires { F.IsAlwaysCallable change }
+        ensures left { (c : ℕ) → c < vec_len self.old.circuits → F.post change (left_at self.old c) (taken_by (feed_of feed.now) c) (left_at self.new c) }
+        ensures rest { SameButLeft self.old self.new }
+    {
+        let taken = feed.taken();
+        for (number, taken) in taken[..self.circuits.len()].iter().enumerate() {
+            let circuit = self.circuit_mut(number);
+            circuit.left = change(circuit.left, *taken);
+        }
+    }
+
     // Takes what the feed takes on each circuit.
     pub fn take(&mut self, feed: &Feed)
         ensures left { (c : ℕ) → c < vec_len self.old.circuits → left_at self.new c ≡ left_at self.old c - taken_by (feed_of feed.now) c }
-        ensures circuits { vec_len self.new.circuits ≡ vec_len self.old.circuits }
-        ensures feeds { self.new.feeds ≡ self.old.feeds }
-        ensures notices { self.new.notices ≡ self.old.notices }
+        ensures rest { SameButLeft self.old self.new }
     {
-        let first = marks(&feed.first);
-        let second = marks(&feed.second);
-        for number in 0..self.circuits.len() {
-            let taken = amount(feed.mode, feed.rate, first[number], second[number]);
-            let circuit = self.circuit_mut(number);
-            circuit.left = circuit.left.saturating_sub(taken);
-        }
+        self.change_left(feed, |left, taken| left.saturating_sub(taken));
     }
 
     // Gives back what the feed takes on each circuit.
     pub fn give_back(&mut self, feed: &Feed)
         ensures left { (c : ℕ) → c < vec_len self.old.circuits → left_at self.new c ≡ min (left_at self.old c + taken_by (feed_of feed.now) c) (2 ^ 32 - 1) }
-        ensures circuits { vec_len self.new.circuits ≡ vec_len self.old.circuits }
-        ensures feeds { self.new.feeds ≡ self.old.feeds }
-        ensures notices { self.new.notices ≡ self.old.notices }
+        ensures rest { SameButLeft self.old self.new }
     {
-        let first = marks(&feed.first);
-        let second = marks(&feed.second);
-        for number in 0..self.circuits.len() {
-            let given = amount(feed.mode, feed.rate, first[number], second[number]);
-            let circuit = self.circuit_mut(number);
-            circuit.left = circuit.left.saturating_add(given);
-        }
+        self.change_left(feed, |left, given| left.saturating_add(given));
+    }
+}
+
+impl Feed {
+    // What the feed takes on each circuit.
+    fn taken(&self) -> [u32; MAX_CIRCUITS]
+        ensures { (c : ℕ) → c < 384 → slice_index_or result c 0 ≡ taken_by (feed_of self.now) c }
+    {
+        let first = marks(&self.first);
+        let second = marks(&self.second);
+        array::from_fn(|c| amount(self.mode, self.rate, first[c], second[c]))
     }
 }
 

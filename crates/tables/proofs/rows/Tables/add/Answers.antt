@@ -8,12 +8,12 @@ pub returns : goal.returns
 returns c =
     let old = c.args.self.now in
     let f = feed_of c.args.feed in
-    let long = c.take.ensures.circuits in
+    let long = c.take.ensures.rest.circuits in
     let left = c.take.ensures.left in
-    let notices = c.take.ensures.notices in
+    let notices = c.take.ensures.rest.notices in
     let feeds : map feed_of (vec_items c.push_reserved.new.self) ≡ map feed_of (vec_items old.feeds) ++ f ∷ [] =
     ap (map feed_of) c.push_reserved.ensures.items ∙ map_push feed_of (vec_items c.take.new.self.feeds) c.args.feed
-    ∙ ap (λ v. map feed_of (vec_items v) ++ f ∷ []) c.take.ensures.feeds in
+    ∙ ap (λ v. map feed_of (vec_items v) ++ f ∷ []) c.take.ensures.rest.feeds in
     record {
       feeds = feeds;
       notices = notices;
