@@ -1,7 +1,7 @@
 -- Which circuits the standing notices name. Assumes nothing.
-use Rattle.std.proofs.Common.{◌≡◌, ℕ, true, false, eqb, List, [], ◌∷◌, map, sym, refl, ap, ◌∙◌, ◌||◌, inl, inr, arith}
+use Rattle.std.proofs.Common.{◌≡◌, ℕ, ◌↔◌, Bool, true, false, not, IsTrue, eqb, List, [], ◌∷◌, map, sym, refl, ap, ◌∙◌, ◌||◌, inl, inr, arith}
 use Rattle.std.specs.List.{list_any}
-use Rattle.std.proofs.lemmas.Bool.{or_parts, or_cases, eqb-true, eqb-false, false≢true}
+use Rattle.std.proofs.lemmas.Bool.{or_parts, or_cases, eqb-true, eqb-false, false≢true, not-true, cases_Bool}
 use Rattle.std.proofs.lemmas.Bool.Decides.{nat_tests}
 use Rattle.network.specs.Routes.{Each, uses}
 use Rattle.promise.specs.Ledger as ledger
@@ -37,3 +37,11 @@ used_not_unnamed c (x ∷ xs) e (apart, rest) =
       | inl here ↦ apart (sym (eqb-true c x.circuit here))
       | inr later ↦ used_not_unnamed c xs later rest
     ]
+
+-- a look for a notice that names the circuit tells whether it is open
+pub open_where_unnamed : (c : ℕ) (xs : List Notice) (b : Bool) → b ≡ list_any (λ x. eqb x.circuit c) xs → IsTrue (not b) ↔ Unnamed c xs
+open_where_unnamed c xs b found =
+    let named_or_not : uses c (named xs) ≡ b = sym (found ∙ named_any c xs) in (
+      λ e. unnamed_from_unused c xs (named_or_not ∙ not-true b e),
+      λ none. elim (cases_Bool b) [ inl e ↦ absurd (used_not_unnamed c xs (named_or_not ∙ e) none) | inr e ↦ ap not e ],
+    )

@@ -15,7 +15,7 @@ impl Tables {
         ensures notices { self.new.notices ≡ self.old.notices }
         ensures circuits { vec_len self.new.circuits ≡ vec_len self.old.circuits }
         ensures left { (c : ℕ) → c < vec_len self.old.circuits → left_at self.new c ≡ left_at self.old c - taken_by (feed_of feed) c }
-        ensures keeps { (n : Network) → Keeps n self.old → (Stands feed_number feed.number (ledger_of self.old).feeds → ⊥) → ((c : ℕ) → c < length n.circuits → taken_by (feed_of feed) c ≤ left_at self.old c) → Keeps n self.new }
+        ensures keeps { (n : Network) → Keeps n self.old → ¬ Stands feed_number feed.number (ledger_of self.old).feeds → ((c : ℕ) → c < length n.circuits → taken_by (feed_of feed) c ≤ left_at self.old c) → Keeps n self.new }
     {
         self.take(&feed);
         self.feeds.push_reserved(feed);
@@ -40,7 +40,7 @@ impl Tables {
         ensures ledger { ledger_of self.new ≡ acted (ledger_of self.old) (close notice.number notice.circuit) }
         ensures feeds { self.new.feeds ≡ self.old.feeds }
         ensures circuits { self.new.circuits ≡ self.old.circuits }
-        ensures keeps { (n : Network) → Keeps n self.old → (Stands notice_number notice.number (ledger_of self.old).notices → ⊥) → Keeps n self.new }
+        ensures keeps { (n : Network) → Keeps n self.old → ¬ Stands notice_number notice.number (ledger_of self.old).notices → Keeps n self.new }
     {
         self.notices.push_reserved(notice);
     }

@@ -1,5 +1,5 @@
 // What the tables tell, each by the ledger that they stand for.
-ghost use Rattle.std.specs.Prelude.{◌≡◌, ℕ, ◌<◌, ◌≤◌, true, false, [], ◌∷◌, vec_len, slice_index_or, MatchOption};
+ghost use Rattle.std.specs.Prelude.{◌≡◌, ℕ, ◌<◌, ◌≤◌, ◌↔◌, true, false, [], ◌∷◌, vec_len, slice_index_or, IsTrue, MatchOption};
 ghost use Rattle.network.specs.Routes.{uses, times};
 ghost use Rattle.promise.specs.Ledger.{Open};
 ghost use Rattle.promise.specs.Promise.{Stands, feed_number, notice_number};
@@ -20,7 +20,7 @@ impl Tables {
     // Which circuits a standing notice names.
     pub fn closed(&self) -> [bool; MAX_CIRCUITS]
         ensures no { (c : ℕ) → c < 384 → slice_index_or result c false ≡ false → Open (ledger_of self.now) c }
-        ensures yes { (c : ℕ) → c < 384 → slice_index_or result c false ≡ true → Open (ledger_of self.now) c → ⊥ }
+        ensures yes { (c : ℕ) → c < 384 → slice_index_or result c false ≡ true → ¬ Open (ledger_of self.now) c }
     {
         let mut closed = [false; MAX_CIRCUITS];
         for notice in self.notices.iter() {
@@ -29,7 +29,8 @@ impl Tables {
         closed
     }
 
-    // The place of the standing feed of that number, or nothing where none stands.
+    // The place of the standing feed of that number, or nothing where none stands. It and `find_notice` are `find` in the
+    // ledger's words: a trait for both would want the ledger's list, its entries and their numbers, and be longer than both.
     pub fn find_feed(&self, number: u32) -> Option<usize>
         ensures { MatchOption result (¬ Stands feed_number number (ledger_of self.now).feeds) (λ i. (i < vec_len self.now.feeds) × ((feed_at self.now i).number ≡ number) × Stands feed_number number (ledger_of self.now).feeds) }
     {
@@ -45,8 +46,7 @@ impl Tables {
 
     // Whether no standing notice names the circuit.
     pub fn is_open(&self, circuit: u32) -> bool
-        ensures yes { result ≡ true → Open (ledger_of self.now) circuit }
-        ensures no { result ≡ false → Open (ledger_of self.now) circuit → ⊥ }
+        ensures { IsTrue result ↔ Open (ledger_of self.now) circuit }
     {
         !self.notices.iter().any(|notice| notice.circuit == circuit)
     }

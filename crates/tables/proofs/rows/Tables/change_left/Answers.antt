@@ -1,4 +1,4 @@
-use Rattle.std.proofs.Common.{◌≡◌, ◌<◌, ◌≤◌, length, ap, ◌∙◌, subst, arith, rules, vec_len}
+use Rattle.std.proofs.Common.{◌≡◌, ℕ, ◌<◌, ◌≤◌, length, ap, ◌∙◌, subst, arith, rules, vec_len}
 use Rattle.std.proofs.lemmas.List.{get_or-take, length-take-le}
 use Rattle.tables.specs.declared.rows.CircuitState.{CircuitState}
 use Rattle.tables.specs.Standing.{feed_of, left_at, taken_by}
@@ -19,8 +19,9 @@ loop-number-preserved g c =
     let within : i < vec_len old.circuits = omega arith in
     let marked : i < 384 = omega (arith, old.few_circuits) in
     let left : c.circuit_mut-circuit.result.now.left ≡ left_at old i = ap (λ (s : CircuitState). s.left) c.circuit_mut-circuit.ensures.value ∙ so.after i (omega arith) in
+    let rule = λ (k left : ℕ). goal.F-post g c.args.change (left_at old k) (taken_by (feed_of c.args.feed.now) k) left in
     let taken = get_or-take n c.taken-taken.result i 0 (omega arith) ∙ c.taken-taken.ensures i marked in
-    changed_more _ old c.loop-number.self i (record { left = c.change-circuit.result }) within so
+    changed_more rule old c.loop-number.self i (record { left = c.change-circuit.result }) within so
     (subst (λ x. goal.F-post g c.args.change x (taken_by (feed_of c.args.feed.now) i) c.change-circuit.result) left
     (subst (λ x. goal.F-post g c.args.change c.circuit_mut-circuit.result.now.left x c.change-circuit.result) taken c.change-circuit.ensures))
 
