@@ -1,11 +1,10 @@
 // The bandwidth left on each circuit: one circuit's state lent, and what a feed takes and gives back.
-ghost use Rattle.std.specs.Prelude.{◌≡◌, ℕ, ◌+◌, ◌-◌, ◌^◌, ◌<◌, ◌≤◌, min, List, vec_len, slice_index_or};
+ghost use Rattle.std.specs.Prelude.{◌≡◌, ℕ, ◌+◌, ◌-◌, ◌^◌, ◌<◌, min, vec_len, slice_index_or};
 ghost use Rattle.std.specs.Borrow.{sem, follows};
 ghost use Rattle.network.specs.Routes.{uses};
-ghost use Rattle.promise.specs.Ledger.{takes};
 ghost use Rattle.tables.specs.contracts.rows.CircuitState.{the_row as circuit_row};
 ghost use Rattle.tables.specs.contracts.rows.Tables.{the_row as tables_row};
-ghost use Rattle.tables.specs.Standing.{feed_of, left_at, taken_by, idle, with_circuit, SameButLeft};
+ghost use Rattle.tables.specs.Standing.{route_of, feed_of, left_at, taken_by, idle, with_circuit, SameButLeft};
 
 use crate::route::marks;
 use crate::rows::{CircuitState, Feed, MAX_CIRCUITS, Tables};
@@ -59,17 +58,15 @@ impl Feed {
     {
         let first = marks(&self.first);
         let second = marks(&self.second);
-        array::from_fn(|c| amount(self.mode, self.rate, first[c], second[c]))
+        array::from_fn(|c| self.amount(first[c], second[c]))
     }
-}
-
-// What a feed takes on a circuit, by which of its routes use it.
-fn amount(mode: Mode, rate: u32, in_first: bool, in_second: bool) -> u32
-    requires { rate ≤ 1000000 }
-    ensures { (c : ℕ) (first second : List ℕ) → in_first ≡ uses c first → in_second ≡ uses c second → result ≡ takes mode rate first second c }
-{
-    match mode {
-        Mode::OnePlusOne => (u32::from(in_first) + u32::from(in_second)) * rate,
-        Mode::OneToOne => { if in_first || in_second { rate } else { 0 } }
+    // What it takes on a circuit, by which of its routes use it.
+    fn amount(&self, in_first: bool, in_second: bool) -> u32
+        ensures { (c : ℕ) → in_first ≡ uses c (route_of self.now.first) → in_second ≡ uses c (route_of self.now.second) → result ≡ taken_by (feed_of self.now) c }
+    {
+        match self.mode {
+            Mode::OnePlusOne => (u32::from(in_first) + u32::from(in_second)) * self.rate,
+            Mode::OneToOne => { if in_first || in_second { self.rate } else { 0 } }
+        }
     }
 }
