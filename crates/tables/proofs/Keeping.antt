@@ -1,5 +1,5 @@
 -- What is added and struck out leaves the tables those of a book over the same network. Assumes nothing.
-use Rattle.std.proofs.Common.{◌≡◌, ℕ, ◌+◌, ◌-◌, ◌^◌, ◌<◌, ◌≤◌, min, List, [], ◌∷◌, ◌++◌, map, length, get_or, vec_items, vec_len, sum_by, sym, refl, ap, ◌∙◌, subst, arith}
+use Rattle.std.proofs.Common.{◌≡◌, ℕ, ◌<◌, ◌≤◌, List, [], ◌∷◌, ◌++◌, map, length, get_or, vec_items, vec_len, sum_by, sym, refl, ap, ◌∙◌, subst, arith}
 use Rattle.std.proofs.lemmas.List.{map-append}
 use Rattle.std.proofs.lemmas.List.Recursion.{is_sum_by}
 use Rattle.std.proofs.lemmas.List.Sums.{sum_by-append, sum_by-remove}
@@ -9,7 +9,7 @@ use Rattle.promise.specs.Ledger as ledger
 use Rattle.promise.specs.Ledger.{Ledger, taken}
 use Rattle.promise.specs.Promise.{Stands, feed_number, notice_number}
 use Rattle.tables.specs.declared.rows.Tables.{Tables}
-use Rattle.tables.specs.Standing.{Apart, Keeps, idle, ledger_of, left_at, taken_by, feed_at, no_feed}
+use Rattle.tables.specs.Standing.{Apart, Keeps, idle, ledger_of, left_at, taken_by, feed_at, no_feed, TakenOff, GivenBack}
 use Rattle.tables.proofs.Numbers.{apart_push, apart_removed}
 
 pub map_removed : {A B : Type 0} (f : A → B) (xs : List A) (i : ℕ) → map f (remove xs i) ≡ remove (map f xs) i
@@ -21,7 +21,7 @@ taken_sum fs c = is_sum_by (λ gs. taken gs c) (λ f. taken_by f c) refl (λ _ _
 
 module _ (n : Network) (old new : Tables) (long : vec_len new.circuits ≡ vec_len old.circuits) (keeps : Keeps n old) where
   pub keeps_added : (f : ledger.Feed) → (ledger_of new).feeds ≡ (ledger_of old).feeds ++ f ∷ [] → (ledger_of new).notices ≡ (ledger_of old).notices
-      → ((c : ℕ) → c < vec_len old.circuits → left_at new c ≡ left_at old c - taken_by f c)
+      → TakenOff f old new
       → (Stands feed_number f.number (ledger_of old).feeds → ⊥) → ((c : ℕ) → c < length n.circuits → taken_by f c ≤ left_at old c) → Keeps n new
   keeps_added f feeds notices left none fits = record {
     long = long ∙ keeps.long;
@@ -35,7 +35,7 @@ module _ (n : Network) (old new : Tables) (long : vec_len new.circuits ≡ vec_l
   }
 
   pub keeps_struck : Proper n → (i : ℕ) → i < length (ledger_of old).feeds → (ledger_of new).feeds ≡ remove (ledger_of old).feeds i → (ledger_of new).notices ≡ (ledger_of old).notices
-      → ((c : ℕ) → c < vec_len old.circuits → left_at new c ≡ min (left_at old c + taken_by (feed_at old i) c) (2 ^ 32 - 1))
+      → GivenBack (feed_at old i) old new
       → Keeps n new
   keeps_struck proper i here feeds notices left = record {
     long = long ∙ keeps.long;

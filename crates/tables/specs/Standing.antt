@@ -1,5 +1,5 @@
 -- What the tables stand for: a ledger, and the bandwidth left on each circuit. Assumes nothing.
-use Rattle.std.specs.Prelude.{◌≡◌, ℕ, ◌+◌, ◌<◌, List, [], ◌∷◌, map, length, get_or, take, vec_items, vec_len, slice_index_or}
+use Rattle.std.specs.Prelude.{◌≡◌, ℕ, ◌+◌, ◌-◌, ◌^◌, ◌<◌, min, List, [], ◌∷◌, map, length, get_or, take, vec_items, vec_len, slice_index_or}
 use Rattle.std.specs.Vec.{with_item}
 use Rattle.std.proofs.Props.{props}
 use Rattle.std.specs.Coded.{×_prop, →_prop, Unit-prop}
@@ -64,6 +64,14 @@ pub record SameButLeft (old new : Tables) : Type 0 where
   pub circuits : vec_len new.circuits ≡ vec_len old.circuits
   pub feeds : new.feeds ≡ old.feeds
   pub notices : new.notices ≡ old.notices
+
+-- what the feed takes is off what was left, on each circuit
+abbrev pub TakenOff : ledger.Feed → Tables → Tables → Type 0
+TakenOff f old new = (c : ℕ) → c < vec_len old.circuits → left_at new c ≡ left_at old c - taken_by f c
+
+-- what the feed takes is added to what was left, on each circuit, up to the largest number that fits
+abbrev pub GivenBack : ledger.Feed → Tables → Tables → Type 0
+GivenBack f old new = (c : ℕ) → c < vec_len old.circuits → left_at new c ≡ min (left_at old c + taken_by f c) (2 ^ 32 - 1)
 
 -- no two records of the list have the same number
 abbrev pub Apart : {A : Type 0} → (A → ℕ) → List A → Type 0

@@ -1,10 +1,10 @@
 // The bandwidth left on each circuit: one circuit's state lent, and what a feed takes and gives back.
-ghost use Rattle.std.specs.Prelude.{◌≡◌, ℕ, ◌+◌, ◌-◌, ◌^◌, ◌<◌, min, vec_len, slice_index_or};
+ghost use Rattle.std.specs.Prelude.{◌≡◌, ℕ, ◌<◌, vec_len, slice_index_or};
 ghost use Rattle.std.specs.Borrow.{sem, follows};
 ghost use Rattle.network.specs.Routes.{uses};
 ghost use Rattle.tables.specs.contracts.rows.CircuitState.{the_row as circuit_row};
 ghost use Rattle.tables.specs.contracts.rows.Tables.{the_row as tables_row};
-ghost use Rattle.tables.specs.Standing.{route_of, feed_of, left_at, taken_by, idle, with_circuit, SameButLeft};
+ghost use Rattle.tables.specs.Standing.{route_of, feed_of, left_at, taken_by, idle, with_circuit, SameButLeft, TakenOff, GivenBack};
 
 use crate::route::marks;
 use crate::rows::{CircuitState, Feed, MAX_CIRCUITS, Tables};
@@ -24,7 +24,8 @@ impl Tables {
     // Changes what is left on each circuit by what the feed takes there.
     fn change_left<F: Fn(u32, u32) -> u32>(&mut self, feed: &Feed, change: F)
         requires { F.IsAlwaysCallable change }
-        ensures left { (c : ℕ) → c < vec_len self.old.circuits → F.post change (left_at self.old c) (taken_by (feed_of feed.now) c) (left_at self.new c) }
+        ensures left { (c : ℕ) → c < vec_len self.old.circuits
+            → F.post change (left_at self.old c) (taken_by (feed_of feed.now) c) (left_at self.new c) }
         ensures rest { SameButLeft self.old self.new }
     {
         let taken = feed.taken();
@@ -36,7 +37,7 @@ impl Tables {
 
     // Takes what the feed takes on each circuit.
     pub fn take(&mut self, feed: &Feed)
-        ensures left { (c : ℕ) → c < vec_len self.old.circuits → left_at self.new c ≡ left_at self.old c - taken_by (feed_of feed.now) c }
+        ensures left { TakenOff (feed_of feed.now) self.old self.new }
         ensures rest { SameButLeft self.old self.new }
     {
         self.change_left(feed, |left, taken| left.saturating_sub(taken));
@@ -44,7 +45,7 @@ impl Tables {
 
     // Gives back what the feed takes on each circuit.
     pub fn give_back(&mut self, feed: &Feed)
-        ensures left { (c : ℕ) → c < vec_len self.old.circuits → left_at self.new c ≡ min (left_at self.old c + taken_by (feed_of feed.now) c) (2 ^ 32 - 1) }
+        ensures left { GivenBack (feed_of feed.now) self.old self.new }
         ensures rest { SameButLeft self.old self.new }
     {
         self.change_left(feed, |left, given| left.saturating_add(given));
@@ -62,7 +63,8 @@ impl Feed {
     }
     // What it takes on a circuit, by which of its routes use it.
     fn amount(&self, in_first: bool, in_second: bool) -> u32
-        ensures { (c : ℕ) → in_first ≡ uses c (route_of self.now.first) → in_second ≡ uses c (route_of self.now.second) → result ≡ taken_by (feed_of self.now) c }
+        ensures { (c : ℕ) → in_first ≡ uses c (route_of self.now.first) → in_second ≡ uses c (route_of self.now.second)
+            → result ≡ taken_by (feed_of self.now) c }
     {
         match self.mode {
             Mode::OnePlusOne => (u32::from(in_first) + u32::from(in_second)) * self.rate,

@@ -29,8 +29,10 @@ impl Numbered for Notice {
 
 // The place of the first record of that number, or nothing where no record has it.
 pub fn find<T: Numbered>(records: &[T], number: u32) -> Option<usize>
-    ensures { MatchOption result ((k : ℕ) (d : T) → k < length records.now → T.number_of (slice_index_or records.now k d) ≢ number)
-        (λ i. (i < length records.now) × ((d : T) → T.number_of (slice_index_or records.now i d) ≡ number) × ((k : ℕ) (d : T) → k < i → T.number_of (slice_index_or records.now k d) ≢ number)) }
+    ensures { MatchOption result
+        ((k : ℕ) (d : T) → k < length records.now → T.number_of (slice_index_or records.now k d) ≢ number)
+        (λ i. (i < length records.now) × ((d : T) → T.number_of (slice_index_or records.now i d) ≡ number)
+        × ((k : ℕ) (d : T) → k < i → T.number_of (slice_index_or records.now k d) ≢ number)) }
 {
     records.iter().position(|record| record.number() == number)
 }

@@ -12,7 +12,8 @@ use crate::rows::{MAX_CIRCUITS, Tables};
 impl Tables {
     // The bandwidth left on a circuit, or nothing where there is none of that number.
     pub fn left(&self, circuit: u32) -> Option<u32>
-        ensures { MatchOption result (vec_len self.now.circuits ≤ circuit) (λ left. (circuit < vec_len self.now.circuits) × (left ≡ left_at self.now circuit)) }
+        ensures { MatchOption result (vec_len self.now.circuits ≤ circuit)
+            (λ left. (circuit < vec_len self.now.circuits) × (left ≡ left_at self.now circuit)) }
     {
         self.circuits.get(circuit as usize).map(|c| c.left)
     }
@@ -32,14 +33,18 @@ impl Tables {
     // The place of the standing feed of that number, or nothing where none stands. It and `find_notice` are `find` in the
     // ledger's words: a trait for both would want the ledger's list, its entries and their numbers, and be longer than both.
     pub fn find_feed(&self, number: u32) -> Option<usize>
-        ensures { MatchOption result (¬ Stands feed_number number (ledger_of self.now).feeds) (λ i. (i < vec_len self.now.feeds) × ((feed_at self.now i).number ≡ number) × Stands feed_number number (ledger_of self.now).feeds) }
+        ensures { MatchOption result (¬ Stands feed_number number (ledger_of self.now).feeds)
+            (λ i. (i < vec_len self.now.feeds) × ((feed_at self.now i).number ≡ number)
+            × Stands feed_number number (ledger_of self.now).feeds) }
     {
         find(&self.feeds, number)
     }
 
     // The place of the standing notice of that number, or nothing where none stands.
     pub fn find_notice(&self, number: u32) -> Option<usize>
-        ensures { MatchOption result (¬ Stands notice_number number (ledger_of self.now).notices) (λ i. (i < vec_len self.now.notices) × ((notice_at self.now i).number ≡ number) × Stands notice_number number (ledger_of self.now).notices) }
+        ensures { MatchOption result (¬ Stands notice_number number (ledger_of self.now).notices)
+            (λ i. (i < vec_len self.now.notices) × ((notice_at self.now i).number ≡ number)
+            × Stands notice_number number (ledger_of self.now).notices) }
     {
         find(&self.notices, number)
     }
