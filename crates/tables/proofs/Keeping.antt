@@ -6,7 +6,7 @@ use Rattle.std.proofs.lemmas.List.Sums.{sum_by-append, sum_by-remove}
 use Rattle.std.specs.List.{remove, take-map, drop-map}
 use Rattle.network.specs.Network.{Network, Proper}
 use Rattle.promise.specs.Ledger as ledger
-use Rattle.promise.specs.Ledger.{Ledger, taken}
+use Rattle.promise.specs.Ledger.{taken}
 use Rattle.promise.specs.Promise.{Stands, feed_number, notice_number}
 use Rattle.tables.specs.declared.rows.Tables.{Tables}
 use Rattle.tables.specs.Standing.{Apart, Keeps, idle, ledger_of, left_at, taken_by, feed_at, no_feed, TakenOff, GivenBack}

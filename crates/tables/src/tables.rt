@@ -1,9 +1,9 @@
 // What the tables tell, each by the ledger that they stand for.
 ghost use Rattle.std.specs.Prelude.{◌≡◌, ℕ, ◌<◌, ◌≤◌, ◌↔◌, true, false, [], ◌∷◌, vec_len, slice_index_or, IsTrue, MatchOption};
-ghost use Rattle.network.specs.Routes.{uses, times};
+ghost use Rattle.network.specs.Routes.{times};
 ghost use Rattle.promise.specs.Ledger.{Open};
 ghost use Rattle.promise.specs.Promise.{Stands, feed_number, notice_number};
-ghost use Rattle.tables.specs.Standing.{route_of, ledger_of, left_at, feed_at, notice_at};
+ghost use Rattle.tables.specs.Standing.{ledger_of, left_at, feed_at, notice_at};
 
 use crate::numbered::find;
 use crate::route::mark;
@@ -24,7 +24,7 @@ impl Tables {
         ensures yes { (c : ℕ) → c < 384 → slice_index_or result c false ≡ true → ¬ Open (ledger_of self.now) c }
     {
         let mut closed = [false; MAX_CIRCUITS];
-        for notice in self.notices.iter() {
+        for notice in &self.notices {
             mark(&mut closed, notice.circuit as usize);
         }
         closed
