@@ -2,9 +2,9 @@
 ghost use Rattle.std.specs.Prelude.{◌≡◌, ℕ, ◌+◌, ◌<◌, ◌≤◌, false, ◌⊎◌, ◌++◌, length, take, drop, IfOk, Ok, Err, vec_len, Decides};
 ghost use Rattle.promise.specs.Ledger.{nothing_yet};
 ghost use Rattle.promise.specs.Promise.{Stands, feed_number, notice_number, BadPlaces, BadRate, NoCircuit, act, tell, release, close, reopen, left as left_call, opens, uses as uses_call};
-ghost use Rattle.tables.specs.Standing.{ledger_of, Keeps, route_of};
+ghost use Rattle.tables.specs.Standing.{ledger_of, Keeps, Keeps-prop, route_of};
 ghost use Rattle.calls.specs.Calls.{safest_call, widest_call, book_call};
-ghost use Rattle.book.specs.Answered.{Promised, planned, ListsKept, acted, told_number, told_whether};
+ghost use Rattle.book.specs.Answered.{Answered, planned, ListsKept, acted, told_number, told_whether};
 
 use crate::answer::Pair;
 use calls::Ask;
@@ -15,12 +15,13 @@ use scale::Scale;
 use std::alloc::{AllocError, Global};
 use tables::{Feed, MAX_ROUTE, MAX_STANDING, Notice, Route, Tables};
 
-// The tables are those of the register's network: a book made by `new` starts so, and every call keeps it so.
+// The tables are those of the register's network.
 #[derive(Drop)]
 pub struct Book<R: Register + Drop, S: Scale + Drop> {
     register: R,
     scale: S,
     tables: Tables,
+    ghost keeps: { Keeps (R.network register) tables } by { Keeps-prop (R.network register) tables },
 }
 
 // Whether the rate is none that may be asked for.
@@ -66,7 +67,7 @@ fn write_pair<V: Copy>(rate: u32, plan: &Plan<V>, first: &mut [u16], second: &mu
 impl<R: Register + Drop, S: Scale + Drop> Book<R, S> {
     // No feeds, no notices, all circuits open, and on each the register's bandwidth left. Nothing else wants memory.
     pub fn new(heap: Global, register: R, scale: S) -> Result<Book<R, S>, AllocError>
-        ensures { IfOk result (λ b. (b.register ≡ register) × (ledger_of b.tables ≡ nothing_yet) × Keeps (R.Register.network register) b.tables) }
+        ensures { IfOk result (λ b. (b.register ≡ register) × (ledger_of b.tables ≡ nothing_yet)) }
     {
         let tables = Tables::new(heap, &register)?;
         Ok(Book {
@@ -126,7 +127,7 @@ impl<R: Register + Drop, S: Scale + Drop> Book<R, S> {
         first: &mut [u16],
         second: &mut [u16],
     ) -> Result<Pair<S::Value>, Refusal>
-        ensures right { Promised S.Scale.measure (R.Register.network self.now.register) self.now.tables self.now.tables (safest_call ask (length first.old) (length second.old)) (planned result first.new second.new) }
+        ensures right { Answered S.Scale.measure (R.Register.network self.now.register) self.now.tables self.now.tables (safest_call ask (length first.old) (length second.old)) (planned result first.new second.new) }
         ensures lists { ListsKept result first.old first.new second.old second.new }
     {
         if self.bad_places(ask.from, ask.to) {
@@ -161,7 +162,7 @@ impl<R: Register + Drop, S: Scale + Drop> Book<R, S> {
         first: &mut [u16],
         second: &mut [u16],
     ) -> Result<Pair<S::Value>, Refusal>
-        ensures right { Promised S.Scale.measure (R.Register.network self.now.register) self.now.tables self.now.tables (widest_call from to mode limit (length first.old) (length second.old)) (planned result first.new second.new) }
+        ensures right { Answered S.Scale.measure (R.Register.network self.now.register) self.now.tables self.now.tables (widest_call from to mode limit (length first.old) (length second.old)) (planned result first.new second.new) }
         ensures lists { ListsKept result first.old first.new second.old second.new }
     {
         if self.bad_places(from, to) {
@@ -190,7 +191,7 @@ impl<R: Register + Drop, S: Scale + Drop> Book<R, S> {
         first: &mut [u16],
         second: &mut [u16],
     ) -> Result<Pair<S::Value>, Refusal>
-        ensures right { Promised S.Scale.measure (R.Register.network self.old.register) self.old.tables self.new.tables (book_call feed ask limit (length first.old) (length second.old)) (planned result first.new second.new) }
+        ensures right { Answered S.Scale.measure (R.Register.network self.old.register) self.old.tables self.new.tables (book_call feed ask limit (length first.old) (length second.old)) (planned result first.new second.new) }
         ensures lists { ListsKept result first.old first.new second.old second.new }
         ensures kept { elim result [ Ok _ ↦ self.new.register ≡ self.old.register | Err _ ↦ self.new ≡ self.old ] }
     {
@@ -235,7 +236,7 @@ impl<R: Register + Drop, S: Scale + Drop> Book<R, S> {
 
     // Ends a feed, and returns what it took.
     pub fn release(&mut self, feed: u32) -> Result<(), Refusal>
-        ensures right { Promised S.Scale.measure (R.Register.network self.old.register) self.old.tables self.new.tables (act (release feed)) (acted result) }
+        ensures right { Answered S.Scale.measure (R.Register.network self.old.register) self.old.tables self.new.tables (act (release feed)) (acted result) }
         ensures kept { elim result [ Ok _ ↦ self.new.register ≡ self.old.register | Err _ ↦ self.new ≡ self.old ] }
     {
         if feed == 0 {
@@ -250,7 +251,7 @@ impl<R: Register + Drop, S: Scale + Drop> Book<R, S> {
 
     // A notice that its circuit is closed. Feeds keep their circuits.
     pub fn close(&mut self, notice: u32, circuit: u32) -> Result<(), Refusal>
-        ensures right { Promised S.Scale.measure (R.Register.network self.old.register) self.old.tables self.new.tables (act (close notice circuit)) (acted result) }
+        ensures right { Answered S.Scale.measure (R.Register.network self.old.register) self.old.tables self.new.tables (act (close notice circuit)) (acted result) }
         ensures kept { elim result [ Ok _ ↦ self.new.register ≡ self.old.register | Err _ ↦ self.new ≡ self.old ] }
     {
         if notice == 0 {
@@ -274,7 +275,7 @@ impl<R: Register + Drop, S: Scale + Drop> Book<R, S> {
 
     // Ends a notice. Its circuit is open again where no other notice names it.
     pub fn reopen(&mut self, notice: u32) -> Result<(), Refusal>
-        ensures right { Promised S.Scale.measure (R.Register.network self.old.register) self.old.tables self.new.tables (act (reopen notice)) (acted result) }
+        ensures right { Answered S.Scale.measure (R.Register.network self.old.register) self.old.tables self.new.tables (act (reopen notice)) (acted result) }
         ensures kept { elim result [ Ok _ ↦ self.new.register ≡ self.old.register | Err _ ↦ self.new ≡ self.old ] }
     {
         if notice == 0 {
@@ -289,7 +290,7 @@ impl<R: Register + Drop, S: Scale + Drop> Book<R, S> {
 
     // The bandwidth left on a circuit.
     pub fn left(&self, circuit: u32) -> Result<u32, Refusal>
-        ensures { Promised S.Scale.measure (R.Register.network self.now.register) self.now.tables self.now.tables (tell (left_call circuit)) (told_number result) }
+        ensures { Answered S.Scale.measure (R.Register.network self.now.register) self.now.tables self.now.tables (tell (left_call circuit)) (told_number result) }
     {
         match self.tables.left(circuit) {
             Some(left) => Ok(left),
@@ -299,7 +300,7 @@ impl<R: Register + Drop, S: Scale + Drop> Book<R, S> {
 
     // Whether no standing notice names the circuit.
     pub fn is_open(&self, circuit: u32) -> Result<bool, Refusal>
-        ensures { Promised S.Scale.measure (R.Register.network self.now.register) self.now.tables self.now.tables (tell (opens circuit)) (told_whether result) }
+        ensures { Answered S.Scale.measure (R.Register.network self.now.register) self.now.tables self.now.tables (tell (opens circuit)) (told_whether result) }
     {
         if self.no_circuit(circuit) {
             return Err(Refusal::Unknown);
@@ -309,7 +310,7 @@ impl<R: Register + Drop, S: Scale + Drop> Book<R, S> {
 
     // How many routes of a standing feed use the circuit.
     pub fn uses(&self, feed: u32, circuit: u32) -> Result<u8, Refusal>
-        ensures { Promised S.Scale.measure (R.Register.network self.now.register) self.now.tables self.now.tables (tell (uses_call feed circuit)) (told_number result) }
+        ensures { Answered S.Scale.measure (R.Register.network self.now.register) self.now.tables self.now.tables (tell (uses_call feed circuit)) (told_number result) }
     {
         if feed == 0 {
             return Err(Refusal::Zero);

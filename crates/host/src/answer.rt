@@ -2,7 +2,7 @@
 ghost use Rattle.std.specs.Prelude.{◌≡◌, ◌<◌, ◌≤◌, length};
 ghost use Rattle.network.specs.Refusals.{number_of};
 ghost use Rattle.promise.specs.Ledger.{nothing_yet};
-ghost use Rattle.tables.specs.Standing.{ledger_of, Keeps};
+ghost use Rattle.tables.specs.Standing.{ledger_of};
 ghost use Rattle.host.specs.Entry.{Asked};
 
 use super::output::put_answer;
@@ -39,7 +39,6 @@ fn answer_by<R: Register + Drop>(
     second: &mut [u16],
     output: &mut [u8],
 ) -> u32
-    requires keeps { Keeps (R.Register.network book.now.register) book.now.tables }
     requires unused { ledger_of book.now.tables ≡ nothing_yet }
     requires lists { length first.old ≡ length second.old }
     requires short { length output.old < 516 → length first.old < 127 }
@@ -58,7 +57,6 @@ fn answer_by<R: Register + Drop>(
 
 // Asks a new book for the safest pair, and writes it to the output.
 pub fn answer<R: Register + Drop>(book: &Book<R, Total>, ask: Ask, output: &mut [u8]) -> u32
-    requires keeps { Keeps (R.Register.network book.now.register) book.now.tables }
     requires unused { ledger_of book.now.tables ≡ nothing_yet }
     ensures { Asked (R.Register.network book.now.register) ask.from ask.to ask.rate ask.mode output.old output.new result }
 {

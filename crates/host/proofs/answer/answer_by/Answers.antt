@@ -11,7 +11,7 @@ returns-in-Ok g c =
     let n = g.R.Register.network c.args.book.now.register in
     let a = c.args.ask in
     let pair = c.in-Ok.pair in
-    let right = (c.in-Ok.ensures.right c.requires.keeps).right in
+    let right = c.in-Ok.ensures.right.right in
     inl (
       refl,
       record {

@@ -14,15 +14,15 @@ returns g c =
     let p = c.in-Some.plan in
     let w = c.write_pair.ensures in
     record {
-      right = λ keeps.
-          let safe = c.in-Some.ensures keeps in
+      right =
+          let safe = c.in-Some.ensures c.args.self.now.keeps in
           record {
             right = (
               (not_from_Decides c.bad_places.result c.bad_places.ensures c.if-bad_places.false, (not_from_Decides c.bad_rate.result c.bad_rate.ensures c.if-bad_rate.false, (not_from_Decides c.short_lists.result c.short_lists.ensures c.if-short_lists.false, ((λ none. none (route_of p.first ∷ route_of p.second ∷ []) safe.choice), tt)))),
               planned_same s n l (safest a.from a.to a.rate a.mode) a.rate _ (route_of p.first) _ (route_of p.second) _ p.cost _ w.pair.0 w.routes.0 w.routes.1 w.pair.1 (refl, safe),
             );
             told_ledger = refl;
-            keeps = keeps;
+            keeps = c.args.self.now.keeps;
           };
       lists = w.lists;
     }

@@ -7,7 +7,7 @@ use Rattle.tables.proofs.Booking.{used_at}
 use Rattle.book.proofs.book.Book.uses.Goals as goal
 
 pub returns : goal.returns
-returns g c = λ keeps.
+returns g c =
     let t = c.args.self.now.tables in
     let n = g.R.Register.network c.args.self.now.register in
     let s = g.S.Scale.measure in
@@ -19,5 +19,5 @@ returns g c = λ keeps.
         subst (λ (k : ℕ). Used s n (ledger_of t) c.args.feed c.args.circuit k (ledger_of t).feeds) (sym c.uses.ensures) (used_at s n (ledger_of t) c.args.feed c.args.circuit (ledger_of t).feeds c.in-Some.i no_feed at found.1),
       );
       told_ledger = refl;
-      keeps = keeps;
+      keeps = c.args.self.now.keeps;
     }

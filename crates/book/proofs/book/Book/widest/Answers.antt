@@ -17,8 +17,8 @@ returns g c =
     let w = c.write_pair.ensures in
     let lawful = g.met.S.Scale.lawful in
     record {
-      right = λ keeps.
-          let wide = c.in_ok-rate.ensures keeps in
+      right =
+          let wide = c.in_ok-rate.ensures c.args.self.now.keeps in
           let f = route_of p.first in
           let h = route_of p.second in
           record {
@@ -27,7 +27,7 @@ returns g c =
               planned_same s n l (widest c.args.from c.args.to c.args.mode c.args.limit) r _ f _ h _ p.cost _ w.pair.0 w.routes.0 w.routes.1 w.pair.1 wide,
             );
             told_ledger = refl;
-            keeps = keeps;
+            keeps = c.args.self.now.keeps;
           };
       lists = w.lists;
     }
@@ -38,10 +38,10 @@ returns-in_err-rate g c =
     let places = not_from_Decides c.bad_places.result c.bad_places.ensures c.if-bad_places.false in
     let lists = not_from_Decides c.short_lists.result c.short_lists.ensures c.if-short_lists.false in
     rw (p.1, p.2) (record {
-      right = λ keeps. record {
-        right = inr (places, inr (lists, declined_first g.S.Scale.measure (g.R.Register.network c.args.self.now.register) (ledger_of c.args.self.now.tables) c.args.from c.args.to c.args.mode 1 c.args.limit c.in_err-rate.field-0.0 (c.in_err-rate.ensures keeps)));
+      right = record {
+        right = inr (places, inr (lists, declined_first g.S.Scale.measure (g.R.Register.network c.args.self.now.register) (ledger_of c.args.self.now.tables) c.args.from c.args.to c.args.mode 1 c.args.limit c.in_err-rate.field-0.0 (c.in_err-rate.ensures c.args.self.now.keeps)));
         told_ledger = refl;
-        keeps = keeps;
+        keeps = c.args.self.now.keeps;
       };
       lists = (refl, refl);
     })
