@@ -2,12 +2,18 @@
 use Rattle.std.specs.Prelude.{◌≡◌, ℕ, ◌≤◌, Bool, cond, List, take, drop, Ok, Err, Result}
 use Rattle.network.specs.declared.refusal.Refusal.{Refusal}
 use Rattle.network.specs.Refusals.{number_of}
+use Rattle.network.specs.Checks.{Check, First, Passed}
 use Rattle.network.specs.Network.{Network}
 use Rattle.scale.specs.Measure.{Measure}
 use Rattle.promise.specs.Promise.{Call, Answer, refused, pair, done, told, Right, after}
 use Rattle.tables.specs.declared.rows.Tables.{Tables}
 use Rattle.tables.specs.Standing.{ledger_of, Keeps}
 use Rattle.book.specs.declared.answer.Pair.{Pair}
+
+-- Checks in their order: none fails, or the refusal is that of the first that fails.
+abbrev pub Checked : {A : Type 0} → List Check → Result A Refusal → Type 0
+Checked checks (Ok x) = Passed checks
+Checked checks (Err e) = First (number_of e) checks
 
 -- What each call promises: it is answered right by the ledger that the tables stand for before it, and afterwards they
 -- stand for the ledger that has been told the call and its answer.
