@@ -14,7 +14,7 @@ use crate::checks::{check_lists, check_rate, check_room, fresh, standing};
 use crate::writing::write_pair;
 use calls::Ask;
 use network::{Refusal, Register};
-use plan::{Plan, safest_at, safest_within, widest_within};
+use plan::{Plan, Question};
 use promise::Mode;
 use scale::Scale;
 use std::alloc::{AllocError, Global};
@@ -42,15 +42,22 @@ impl<R: Register + Drop, S: Scale + Drop> Book<R, S> {
         })
     }
 
-    // Two places of the network, and not the same.
-    fn check_places(&self, from: u32, to: u32) -> Result<(), Refusal>
-        ensures { Checked (check 13 (BadPlaces (R.Register.network self.now.register) from to) ∷ []) result }
+    // The question for two routes between two places, which is asked of different places of the network alone.
+    fn question(&self, from: u32, to: u32, mode: Mode) -> Result<Question<'_, R>, Refusal>
+        ensures places { Checked (check 13 (BadPlaces (R.Register.network self.now.register) from to) ∷ []) result }
+        ensures question { IfOk result (λ q. (q.register.now ≡ self.now.register) × (q.tables.now ≡ self.now.tables) × (q.from ≡ from) × (q.to ≡ to) × (q.mode ≡ mode)) }
     {
         let places = self.register.places() as u32;
         if from >= places || to >= places || from == to {
             return Err(Refusal::Places);
         }
-        Ok(())
+        Ok(Question {
+            register: &self.register,
+            tables: &self.tables,
+            from,
+            to,
+            mode,
+        })
     }
 
     // A circuit of the network.
@@ -73,18 +80,10 @@ impl<R: Register + Drop, S: Scale + Drop> Book<R, S> {
         ensures right { Answered S.Scale.measure (R.Register.network self.now.register) self.now.tables self.now.tables (safest_call ask (length first.old) (length second.old)) (planned result first.new second.new) }
         ensures lists { ListsKept result first.old first.new second.old second.new }
     {
-        self.check_places(ask.from, ask.to)?;
+        let question = self.question(ask.from, ask.to, ask.mode)?;
         check_rate(ask.rate)?;
         check_lists(first, second)?;
-        let plan = safest_at::<R, S>(
-            &self.register,
-            &self.tables,
-            ask.from,
-            ask.to,
-            ask.rate,
-            ask.mode,
-        )
-        .ok_or(Refusal::NoPair)?;
+        let plan = question.safest_at::<S>(ask.rate).ok_or(Refusal::NoPair)?;
         Ok(write_pair(ask.rate, &plan, first, second))
     }
 
@@ -101,16 +100,9 @@ impl<R: Register + Drop, S: Scale + Drop> Book<R, S> {
         ensures right { Answered S.Scale.measure (R.Register.network self.now.register) self.now.tables self.now.tables (widest_call from to mode limit (length first.old) (length second.old)) (planned result first.new second.new) }
         ensures lists { ListsKept result first.old first.new second.old second.new }
     {
-        self.check_places(from, to)?;
+        let question = self.question(from, to, mode)?;
         check_lists(first, second)?;
-        let (rate, plan) = widest_within::<R, S>(
-            &self.register,
-            &self.tables,
-            from,
-            to,
-            mode,
-            limit,
-        )?;
+        let (rate, plan) = question.widest_within::<S>(limit)?;
         Ok(write_pair(rate, &plan, first, second))
     }
 
@@ -128,18 +120,10 @@ impl<R: Register + Drop, S: Scale + Drop> Book<R, S> {
     {
         fresh(feed, self.tables.find_feed(feed))?;
         check_room(self.tables.feeds.len())?;
-        self.check_places(ask.from, ask.to)?;
+        let question = self.question(ask.from, ask.to, ask.mode)?;
         check_rate(ask.rate)?;
         check_lists(first, second)?;
-        safest_within::<R, S>(
-            &self.register,
-            &self.tables,
-            ask.from,
-            ask.to,
-            ask.rate,
-            ask.mode,
-            limit,
-        )
+        question.safest_within::<S>(ask.rate, limit)
     }
 
     // Answers as `safest` does, and takes bandwidth for the feed.
