@@ -1,27 +1,21 @@
 -- From a plan to the answer of a call.
-use Rattle.std.proofs.Common.{◌≡◌, ℕ, ◌≤◌, List, [], ◌∷◌, ◌++◌, map, length, take, drop, vec_items, sym, ap, ◌∙◌, subst, inl, inr, arith, length-append, length-drop}
+use Rattle.std.proofs.Common.{◌≡◌, ℕ, ◌<◌, ◌≤◌, ◌⊎◌, List, [], ◌∷◌, ◌++◌, map, length, take, drop, vec_items, Ok, Err, Result, sym, ap, ◌∙◌, subst, inl, inr, arith, length-append, length-drop}
 use Rattle.std.proofs.lemmas.List.{take-append-le, take_all}
 use Rattle.std.proofs.lemmas.List.Prefix.{front_rest}
 use Rattle.network.specs.Network.{Network}
-use Rattle.scale.specs.Measure.{Measure}
-use Rattle.promise.specs.Ledger.{Ledger}
+use Rattle.scale.specs.Measure.{Measure, Lawful}
+use Rattle.promise.specs.Ledger.{Feed, Ledger}
 use Rattle.network.specs.declared.refusal.Refusal.{Refusal}
 use Rattle.network.specs.Refusals.{number_of}
-use Rattle.network.specs.Checks.{First, check}
+use Rattle.network.specs.Checks.{Check, check, Passed}
 use Rattle.promise.specs.declared.Mode.{Mode}
-use Rattle.promise.specs.Promise.{Plan, Planned, NoPair, NoneWithin}
+use Rattle.promise.specs.Promise.{BadPlaces, BadRate, NoPair, NoneWithin, Stands, feed_number, checks, plan, book}
+use Rattle.promise.proofs.Plans.{not_no_pair, not_none_within}
 use Rattle.tables.specs.declared.rows.Tables.{Tables}
-use Rattle.tables.specs.Standing.{ledger_of, notice_of}
-use Rattle.plan.specs.Planned.{Declined}
-
-module _ {V : Type 0} (s : Measure V) (n : Network) (l : Ledger) (x : Plan V) where
-  -- a pair by any names of its parts
-  pub planned_same : (r r' : ℕ) (f f' g g' : List ℕ) (v v' : V) → r' ≡ r → f' ≡ f → g' ≡ g → v' ≡ v → Planned s n l x r f g v → Planned s n l x r' f' g' v'
-  planned_same r r' f f' g g' v v' a b c d p =
-      subst (λ (z : V). Planned s n l x r' f' g' z) (sym d)
-      (subst (λ (z : List ℕ). Planned s n l x r' f' z v) (sym c)
-      (subst (λ (z : List ℕ). Planned s n l x r' z g v) (sym b)
-      (subst (λ (z : ℕ). Planned s n l x z f g v) (sym a) p)))
+use Rattle.tables.specs.Standing.{ledger_of, notice_of, route_of}
+use Rattle.plan.specs.declared.plan.Plan.{Plan}
+use Rattle.plan.specs.Planned.{SafestWithin}
+use Rattle.book.specs.Answered.{Checked}
 
 -- a route at the start of a list: what stands there now, and what stands past it as before
 pub written : (n : ℕ) (xs list list' : List ℕ) → n ≤ length list → length list' ≡ length list → list' ≡ xs ++ drop n list → (take n list' ≡ xs) × (drop n list' ≡ drop n list)
@@ -31,18 +25,33 @@ written n xs list list' h e w =
       subst (λ (z : ℕ). drop z list' ≡ drop n list) (sym k) (front_rest list' xs (drop n list) w),
     )
 
--- why there is no pair within a limit, as the first of the last two checks that fails
-pub declined_first : {V : Type 0} (s : Measure V) (n : Network) (l : Ledger) (a b : ℕ) (m : Mode) (r : ℕ) (limit : V) (e : Refusal) → Declined s n l a b m r limit e → First (number_of e) (check 16 (NoPair s n l a b m r) ∷ check 17 (NoneWithin s n l a b m r limit) ∷ [])
-declined_first s n l a b m r limit e (inl p) = inl (ap number_of p.0, p.1)
-declined_first s n l a b m r limit e (inr p) = inr (p.1, inl (ap number_of p.0, p.2))
+-- a check that passes, and then others
+checked_next : {A : Type 0} (p : Check) (ps : List Check) (r : Result A Refusal) → (p.fails → ⊥) → Checked ps r → Checked (p ∷ ps) r
+checked_next p ps (Ok x) h c = (h, c)
+checked_next p ps (Err e) h c = inr (h, c)
 
-ledger_same : (l l' : Ledger) → l.feeds ≡ l'.feeds → l.notices ≡ l'.notices → l ≡ l'
-ledger_same l l' e d = λ j. record { feeds = e j; notices = d j }
+-- checks that pass, and then others
+module _ {A : Type 0} (rest : List Check) (r : Result A Refusal) (c : Checked rest r) where
+  checked_after : (front : List Check) → Passed front → Checked (front ++ rest) r
+  checked_after [] pass = c
+  checked_after (p ∷ front) pass = checked_next p (front ++ rest) r pass.0 (checked_after front pass.1)
 
--- the ledger after a booking, by any names of its routes
-pub booked : (t t' : Tables) (k a b r : ℕ) (m : Mode) (f f' g g' : List ℕ) → f' ≡ f → g' ≡ g
-    → (ledger_of t').feeds ≡ (ledger_of t).feeds ++ (record { number = k; from = a; to = b; rate = r; mode = m; first = f; second = g }) ∷ [] → t'.notices ≡ t.notices
-    → ledger_of t' ≡ record { feeds = (ledger_of t).feeds ++ ((record { number = k; from = a; to = b; rate = r; mode = m; first = f'; second = g' }) ∷ []); notices = (ledger_of t).notices }
-booked t t' k a b r m f f' g g' p q e d =
-    let told : ℕ → List ℕ → List ℕ → Ledger = λ z x y. record { feeds = (ledger_of t).feeds ++ ((record { number = z; from = a; to = b; rate = r; mode = m; first = x; second = y }) ∷ []); notices = (ledger_of t).notices } in
-    ledger_same (ledger_of t') (told k f g) e (ap (λ v. map notice_of (vec_items v)) d) ∙ (ap (λ x. told k x g) (sym p) ∙ ap (λ y. told k f' y) (sym q))
+module _ {V : Type 0} (s : Measure V) (lawful : Lawful s) (n : Network) (l : Ledger) (k a b rate : ℕ) (m : Mode) (limit : V) (first second : ℕ) where
+  -- the checks of a booking that come before the search for its routes, and those that the search decides
+  abbrev pub before_search : List Check
+  before_search = check 9 (k ≡ 0) ∷ check 10 (Stands feed_number k l.feeds) ∷ check 12 (32 ≤ length l.feeds) ∷ check 13 (BadPlaces n a b) ∷ check 14 (BadRate rate) ∷ check 15 ((first < 127) ⊎ (second < 127)) ∷ []
+
+  by_search : (r : Result (Plan V) Refusal) → SafestWithin s n l a b m rate limit r → Checked (check 16 (NoPair s n l a b m rate) ∷ check 17 (NoneWithin s n l a b m rate limit) ∷ []) r
+  by_search (Ok p) h =
+      let f = route_of p.first in
+      let g = route_of p.second in
+      (not_no_pair s lawful n l a b m rate rate f g p.cost h.0 (omega arith), (not_none_within s lawful n l a b m rate rate f g p.cost limit h.0 h.1 (omega arith), tt))
+  by_search (Err e) (inl h) = inl (ap number_of h.0, h.1)
+  by_search (Err e) (inr h) = inr (h.1, inl (ap number_of h.0, h.2))
+
+  pub booking_checked : (r : Result (Plan V) Refusal) → Passed before_search → SafestWithin s n l a b m rate limit r → Checked (checks s n l (plan (book k a b rate m limit) first second)) r
+  booking_checked r pass h = checked_after (check 16 (NoPair s n l a b m rate) ∷ check 17 (NoneWithin s n l a b m rate limit) ∷ []) r (by_search r h) before_search pass
+
+-- the ledger after a booking
+pub booked : (t t' : Tables) (f : Feed) → (ledger_of t').feeds ≡ (ledger_of t).feeds ++ f ∷ [] → t'.notices ≡ t.notices → ledger_of t' ≡ record { feeds = (ledger_of t).feeds ++ f ∷ []; notices = (ledger_of t).notices }
+booked t t' f e d = λ j. record { feeds = e j; notices = map notice_of (vec_items (d j)) }

@@ -2,6 +2,7 @@
 use Rattle.std.specs.Prelude.{◌≡◌, ℕ, ◌≤◌, Bool, cond, List, take, drop, Ok, Err, Result}
 use Rattle.network.specs.declared.refusal.Refusal.{Refusal}
 use Rattle.network.specs.Refusals.{number_of}
+use Rattle.network.specs.Checks.{Check, First, Passed}
 use Rattle.network.specs.Network.{Network}
 use Rattle.scale.specs.Measure.{Measure}
 use Rattle.promise.specs.Promise.{Call, Answer, refused, pair, done, told, Right, after}
@@ -9,16 +10,17 @@ use Rattle.tables.specs.declared.rows.Tables.{Tables}
 use Rattle.tables.specs.Standing.{ledger_of, Keeps}
 use Rattle.book.specs.declared.answer.Pair.{Pair}
 
--- The call is answered right by the ledger that the tables stand for before it, and afterwards they stand for the ledger
--- that has been told the call and its answer.
+-- Checks in their order: none fails, or the refusal is that of the first that fails.
+abbrev pub Checked : {A : Type 0} → List Check → Result A Refusal → Type 0
+Checked checks (Ok x) = Passed checks
+Checked checks (Err e) = First (number_of e) checks
+
+-- What each call promises: it is answered right by the ledger that the tables stand for before it, and afterwards they
+-- stand for the ledger that has been told the call and its answer.
 pub record Answered {V : Type 0} (s : Measure V) (n : Network) (before later : Tables) (call : Call V) (answer : Answer V) : Type 0 where
   pub right : Right s n (ledger_of before) call answer
   pub told_ledger : ledger_of later ≡ after (ledger_of before) call answer
   pub keeps : Keeps n later
-
--- what each call promises, on a book whose tables are those of its register
-abbrev pub Promised : {V : Type 0} → Measure V → Network → Tables → Tables → Call V → Answer V → Type 0
-Promised s n before later call answer = Keeps n before → Answered s n before later call answer
 
 -- the answer of a call that plans: the pair stands at the start of the two lists
 abbrev pub planned : {V : Type 0} → Result (Pair V) Refusal → List ℕ → List ℕ → Answer V

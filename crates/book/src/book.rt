@@ -1,72 +1,38 @@
 // A book over any register and any scale, and its calls.
-ghost use Rattle.std.specs.Prelude.{◌≡◌, ℕ, ◌+◌, ◌<◌, ◌≤◌, false, ◌⊎◌, ◌++◌, length, take, drop, IfOk, Ok, Err, vec_len, Decides};
+ghost use Rattle.std.specs.Prelude.{◌≡◌, [], ◌∷◌, MatchResult, length, IfOk};
+ghost use Rattle.network.specs.Checks.{check};
 ghost use Rattle.promise.specs.Ledger.{nothing_yet};
-ghost use Rattle.promise.specs.Promise.{Stands, feed_number, notice_number, BadPlaces, BadRate, NoCircuit, act, tell, release, close, reopen, left as left_call, opens, uses as uses_call};
-ghost use Rattle.tables.specs.Standing.{ledger_of, Keeps, route_of};
+ghost use Rattle.promise.specs.Promise.{checks, BadPlaces, NoCircuit, act, tell, release, close, reopen, left as left_call, opens, uses as uses_call};
+ghost use Rattle.tables.specs.Standing.{ledger_of, Keeps, Keeps-prop};
 ghost use Rattle.calls.specs.Calls.{safest_call, widest_call, book_call};
-ghost use Rattle.book.specs.Answered.{Promised, planned, ListsKept, acted, told_number, told_whether};
+ghost use Rattle.scale.specs.Measure.{AtMost};
+ghost use Rattle.plan.specs.Planned.{SafestPlan};
+ghost use Rattle.book.specs.Answered.{Answered, Checked, planned, ListsKept, acted, told_number, told_whether};
 
 use crate::answer::Pair;
+use crate::checks::{check_lists, check_rate, check_room, fresh, standing};
+use crate::writing::write_pair;
 use calls::Ask;
 use network::{Refusal, Register};
-use plan::{MAX_RATE, Plan, safest_at, safest_within, widest_within};
+use plan::{Plan, Question};
 use promise::Mode;
 use scale::Scale;
 use std::alloc::{AllocError, Global};
-use tables::{Feed, MAX_ROUTE, MAX_STANDING, Notice, Route, Tables};
+use tables::{Feed, Notice, Tables};
 
-// The tables are those of the register's network: a book made by `new` starts so, and every call keeps it so.
+// The tables are those of the register's network.
 #[derive(Drop)]
 pub struct Book<R: Register + Drop, S: Scale + Drop> {
     register: R,
     scale: S,
     tables: Tables,
-}
-
-// Whether the rate is none that may be asked for.
-fn bad_rate(rate: u32) -> bool
-    ensures { Decides result (BadRate rate) }
-{
-    rate == 0 || rate > MAX_RATE
-}
-
-// Whether one of the lists is too short for some route.
-fn short_lists(first: &[u16], second: &[u16]) -> bool
-    ensures { Decides result ((length first.now < 127) ⊎ (length second.now < 127)) }
-{
-    first.len() < MAX_ROUTE || second.len() < MAX_ROUTE
-}
-
-// Writes the route to the start of the list.
-fn write_route(route: &Route, list: &mut [u16])
-    requires { 127 ≤ length list.old }
-    ensures { list.new ≡ route_of route.now ++ drop route.now.length list.old }
-{
-    let n = route.length;
-    list[0..n].copy_from_slice(&route.circuits[0..n]);
-}
-
-// Writes both routes, and tells the pair.
-fn write_pair<V: Copy>(rate: u32, plan: &Plan<V>, first: &mut [u16], second: &mut [u16]) -> Pair<V>
-    requires first { 127 ≤ length first.old }
-    requires second { 127 ≤ length second.old }
-    ensures pair { (result.rate ≡ rate) × (result.cost ≡ plan.now.cost) }
-    ensures routes { (take result.lengths.0 first.new ≡ route_of plan.now.first) × (take result.lengths.1 second.new ≡ route_of plan.now.second) }
-    ensures lists { ListsKept (Ok result) first.old first.new second.old second.new }
-{
-    write_route(&plan.first, first);
-    write_route(&plan.second, second);
-    Pair {
-        rate,
-        lengths: (plan.first.length, plan.second.length),
-        cost: plan.cost,
-    }
+    ghost keeps: { Keeps (R.network register) tables } by { Keeps-prop (R.network register) tables },
 }
 
 impl<R: Register + Drop, S: Scale + Drop> Book<R, S> {
     // No feeds, no notices, all circuits open, and on each the register's bandwidth left. Nothing else wants memory.
     pub fn new(heap: Global, register: R, scale: S) -> Result<Book<R, S>, AllocError>
-        ensures { IfOk result (λ b. (b.register ≡ register) × (ledger_of b.tables ≡ nothing_yet) × Keeps (R.Register.network register) b.tables) }
+        ensures { IfOk result (λ b. (b.register ≡ register) × (ledger_of b.tables ≡ nothing_yet)) }
     {
         let tables = Tables::new(heap, &register)?;
         Ok(Book {
@@ -76,47 +42,32 @@ impl<R: Register + Drop, S: Scale + Drop> Book<R, S> {
         })
     }
 
-    // Whether a place is unknown, or both are the same.
-    fn bad_places(&self, from: u32, to: u32) -> bool
-        ensures { Decides result (BadPlaces (R.Register.network self.now.register) from to) }
+    // The question for two routes between two places, which is asked of different places of the network alone.
+    fn question(&self, from: u32, to: u32, mode: Mode) -> Result<Question<'_, R>, Refusal>
+        ensures places { Checked (check 13 (BadPlaces (R.Register.network self.now.register) from to) ∷ []) result }
+        ensures question { IfOk result (λ q. (q.register.now ≡ self.now.register) × (q.tables.now ≡ self.now.tables) × (q.from ≡ from) × (q.to ≡ to) × (q.mode ≡ mode)) }
     {
         let places = self.register.places() as u32;
-        from >= places || to >= places || from == to
+        if from >= places || to >= places || from == to {
+            return Err(Refusal::Places);
+        }
+        Ok(Question {
+            register: &self.register,
+            tables: &self.tables,
+            from,
+            to,
+            mode,
+        })
     }
 
-    // Whether a feed of that number stands, and whether a notice does.
-    fn has_feed(&self, feed: u32) -> bool
-        ensures { Decides result (Stands feed_number feed (ledger_of self.now.tables).feeds) }
+    // A circuit of the network.
+    fn check_circuit(&self, circuit: u32) -> Result<(), Refusal>
+        ensures { Checked (check 11 (NoCircuit (R.Register.network self.now.register) circuit) ∷ []) result }
     {
-        self.tables.find_feed(feed).is_some()
-    }
-
-    fn has_notice(&self, notice: u32) -> bool
-        ensures { Decides result (Stands notice_number notice (ledger_of self.now.tables).notices) }
-    {
-        self.tables.find_notice(notice).is_some()
-    }
-
-    // Whether as many feeds stand as may, and whether as many notices do.
-    fn feeds_full(&self) -> bool
-        ensures full { Decides result (32 ≤ length (ledger_of self.now.tables).feeds) }
-        ensures room { result ≡ false → vec_len self.now.tables.feeds < 32 }
-    {
-        self.tables.feeds.len() >= MAX_STANDING
-    }
-
-    fn notices_full(&self) -> bool
-        ensures full { Decides result (32 ≤ length (ledger_of self.now.tables).notices) }
-        ensures room { result ≡ false → vec_len self.now.tables.notices < 32 }
-    {
-        self.tables.notices.len() >= MAX_STANDING
-    }
-
-    // Whether there is no circuit of that number.
-    fn no_circuit(&self, circuit: u32) -> bool
-        ensures { Decides result (NoCircuit (R.Register.network self.now.register) circuit) }
-    {
-        circuit >= self.register.circuits() as u32
+        if circuit >= self.register.circuits() as u32 {
+            return Err(Refusal::Unknown);
+        }
+        Ok(())
     }
 
     // A pair that carries the rate and has least shared cost, at the start of the two lists.
@@ -126,28 +77,13 @@ impl<R: Register + Drop, S: Scale + Drop> Book<R, S> {
         first: &mut [u16],
         second: &mut [u16],
     ) -> Result<Pair<S::Value>, Refusal>
-        ensures right { Promised S.Scale.measure (R.Register.network self.now.register) self.now.tables self.now.tables (safest_call ask (length first.old) (length second.old)) (planned result first.new second.new) }
+        ensures right { Answered S.Scale.measure (R.Register.network self.now.register) self.now.tables self.now.tables (safest_call ask (length first.old) (length second.old)) (planned result first.new second.new) }
         ensures lists { ListsKept result first.old first.new second.old second.new }
     {
-        if self.bad_places(ask.from, ask.to) {
-            return Err(Refusal::Places);
-        }
-        if bad_rate(ask.rate) {
-            return Err(Refusal::Rate);
-        }
-        if short_lists(first, second) {
-            return Err(Refusal::List);
-        }
-        let Some(plan) = safest_at::<R, S>(
-            &self.register,
-            &self.tables,
-            ask.from,
-            ask.to,
-            ask.rate,
-            ask.mode,
-        ) else {
-            return Err(Refusal::NoPair);
-        };
+        let question = self.question(ask.from, ask.to, ask.mode)?;
+        check_rate(ask.rate)?;
+        check_lists(first, second)?;
+        let plan = question.safest_at::<S>(ask.rate).ok_or(Refusal::NoPair)?;
         Ok(write_pair(ask.rate, &plan, first, second))
     }
 
@@ -161,24 +97,33 @@ impl<R: Register + Drop, S: Scale + Drop> Book<R, S> {
         first: &mut [u16],
         second: &mut [u16],
     ) -> Result<Pair<S::Value>, Refusal>
-        ensures right { Promised S.Scale.measure (R.Register.network self.now.register) self.now.tables self.now.tables (widest_call from to mode limit (length first.old) (length second.old)) (planned result first.new second.new) }
+        ensures right { Answered S.Scale.measure (R.Register.network self.now.register) self.now.tables self.now.tables (widest_call from to mode limit (length first.old) (length second.old)) (planned result first.new second.new) }
         ensures lists { ListsKept result first.old first.new second.old second.new }
     {
-        if self.bad_places(from, to) {
-            return Err(Refusal::Places);
-        }
-        if short_lists(first, second) {
-            return Err(Refusal::List);
-        }
-        let (rate, plan) = widest_within::<R, S>(
-            &self.register,
-            &self.tables,
-            from,
-            to,
-            mode,
-            limit,
-        )?;
+        let question = self.question(from, to, mode)?;
+        check_lists(first, second)?;
+        let (rate, plan) = question.widest_within::<S>(limit)?;
         Ok(write_pair(rate, &plan, first, second))
+    }
+
+    // The plan of a feed that may be booked, if both lists have room for its routes.
+    fn plan_feed(
+        &self,
+        feed: u32,
+        ask: Ask,
+        limit: S::Value,
+        first: &[u16],
+        second: &[u16],
+    ) -> Result<Plan<S::Value>, Refusal>
+        ensures checked { Checked (checks S.Scale.measure (R.Register.network self.now.register) (ledger_of self.now.tables) (book_call feed ask limit (length first.now) (length second.now))) result }
+        ensures plan { IfOk result (λ p. SafestPlan S.Scale.measure (R.Register.network self.now.register) (ledger_of self.now.tables) ask.from ask.to ask.mode ask.rate p × AtMost S.Scale.measure p.cost limit) }
+    {
+        fresh(feed, self.tables.find_feed(feed))?;
+        check_room(self.tables.feeds.len())?;
+        let question = self.question(ask.from, ask.to, ask.mode)?;
+        check_rate(ask.rate)?;
+        check_lists(first, second)?;
+        question.safest_within::<S>(ask.rate, limit)
     }
 
     // Answers as `safest` does, and takes bandwidth for the feed.
@@ -190,37 +135,11 @@ impl<R: Register + Drop, S: Scale + Drop> Book<R, S> {
         first: &mut [u16],
         second: &mut [u16],
     ) -> Result<Pair<S::Value>, Refusal>
-        ensures right { Promised S.Scale.measure (R.Register.network self.old.register) self.old.tables self.new.tables (book_call feed ask limit (length first.old) (length second.old)) (planned result first.new second.new) }
+        ensures right { Answered S.Scale.measure (R.Register.network self.old.register) self.old.tables self.new.tables (book_call feed ask limit (length first.old) (length second.old)) (planned result first.new second.new) }
         ensures lists { ListsKept result first.old first.new second.old second.new }
-        ensures kept { elim result [ Ok _ ↦ self.new.register ≡ self.old.register | Err _ ↦ self.new ≡ self.old ] }
+        ensures kept { MatchResult result (λ _. self.new.register ≡ self.old.register) (λ _. self.new ≡ self.old) }
     {
-        if feed == 0 {
-            return Err(Refusal::Zero);
-        }
-        if self.has_feed(feed) {
-            return Err(Refusal::Taken);
-        }
-        if self.feeds_full() {
-            return Err(Refusal::Crowded);
-        }
-        if self.bad_places(ask.from, ask.to) {
-            return Err(Refusal::Places);
-        }
-        if bad_rate(ask.rate) {
-            return Err(Refusal::Rate);
-        }
-        if short_lists(first, second) {
-            return Err(Refusal::List);
-        }
-        let plan = safest_within::<R, S>(
-            &self.register,
-            &self.tables,
-            ask.from,
-            ask.to,
-            ask.rate,
-            ask.mode,
-            limit,
-        )?;
+        let plan = self.plan_feed(feed, ask, limit, first, second)?;
         self.tables.add(Feed {
             number: feed,
             from: ask.from,
@@ -235,36 +154,22 @@ impl<R: Register + Drop, S: Scale + Drop> Book<R, S> {
 
     // Ends a feed, and returns what it took.
     pub fn release(&mut self, feed: u32) -> Result<(), Refusal>
-        ensures right { Promised S.Scale.measure (R.Register.network self.old.register) self.old.tables self.new.tables (act (release feed)) (acted result) }
-        ensures kept { elim result [ Ok _ ↦ self.new.register ≡ self.old.register | Err _ ↦ self.new ≡ self.old ] }
+        ensures right { Answered S.Scale.measure (R.Register.network self.old.register) self.old.tables self.new.tables (act (release feed)) (acted result) }
+        ensures kept { MatchResult result (λ _. self.new.register ≡ self.old.register) (λ _. self.new ≡ self.old) }
     {
-        if feed == 0 {
-            return Err(Refusal::Zero);
-        }
-        let Some(i) = self.tables.find_feed(feed) else {
-            return Err(Refusal::Unknown);
-        };
+        let i = standing(feed, self.tables.find_feed(feed))?;
         self.tables.strike_feed(i);
         Ok(())
     }
 
     // A notice that its circuit is closed. Feeds keep their circuits.
     pub fn close(&mut self, notice: u32, circuit: u32) -> Result<(), Refusal>
-        ensures right { Promised S.Scale.measure (R.Register.network self.old.register) self.old.tables self.new.tables (act (close notice circuit)) (acted result) }
-        ensures kept { elim result [ Ok _ ↦ self.new.register ≡ self.old.register | Err _ ↦ self.new ≡ self.old ] }
+        ensures right { Answered S.Scale.measure (R.Register.network self.old.register) self.old.tables self.new.tables (act (close notice circuit)) (acted result) }
+        ensures kept { MatchResult result (λ _. self.new.register ≡ self.old.register) (λ _. self.new ≡ self.old) }
     {
-        if notice == 0 {
-            return Err(Refusal::Zero);
-        }
-        if self.has_notice(notice) {
-            return Err(Refusal::Taken);
-        }
-        if self.no_circuit(circuit) {
-            return Err(Refusal::Unknown);
-        }
-        if self.notices_full() {
-            return Err(Refusal::Crowded);
-        }
+        fresh(notice, self.tables.find_notice(notice))?;
+        self.check_circuit(circuit)?;
+        check_room(self.tables.notices.len())?;
         self.tables.note(Notice {
             number: notice,
             circuit,
@@ -274,52 +179,35 @@ impl<R: Register + Drop, S: Scale + Drop> Book<R, S> {
 
     // Ends a notice. Its circuit is open again where no other notice names it.
     pub fn reopen(&mut self, notice: u32) -> Result<(), Refusal>
-        ensures right { Promised S.Scale.measure (R.Register.network self.old.register) self.old.tables self.new.tables (act (reopen notice)) (acted result) }
-        ensures kept { elim result [ Ok _ ↦ self.new.register ≡ self.old.register | Err _ ↦ self.new ≡ self.old ] }
+        ensures right { Answered S.Scale.measure (R.Register.network self.old.register) self.old.tables self.new.tables (act (reopen notice)) (acted result) }
+        ensures kept { MatchResult result (λ _. self.new.register ≡ self.old.register) (λ _. self.new ≡ self.old) }
     {
-        if notice == 0 {
-            return Err(Refusal::Zero);
-        }
-        let Some(i) = self.tables.find_notice(notice) else {
-            return Err(Refusal::Unknown);
-        };
+        let i = standing(notice, self.tables.find_notice(notice))?;
         self.tables.strike_notice(i);
         Ok(())
     }
 
     // The bandwidth left on a circuit.
     pub fn left(&self, circuit: u32) -> Result<u32, Refusal>
-        ensures { Promised S.Scale.measure (R.Register.network self.now.register) self.now.tables self.now.tables (tell (left_call circuit)) (told_number result) }
+        ensures { Answered S.Scale.measure (R.Register.network self.now.register) self.now.tables self.now.tables (tell (left_call circuit)) (told_number result) }
     {
-        match self.tables.left(circuit) {
-            Some(left) => Ok(left),
-            None => Err(Refusal::Unknown),
-        }
+        self.tables.left(circuit).ok_or(Refusal::Unknown)
     }
 
     // Whether no standing notice names the circuit.
     pub fn is_open(&self, circuit: u32) -> Result<bool, Refusal>
-        ensures { Promised S.Scale.measure (R.Register.network self.now.register) self.now.tables self.now.tables (tell (opens circuit)) (told_whether result) }
+        ensures { Answered S.Scale.measure (R.Register.network self.now.register) self.now.tables self.now.tables (tell (opens circuit)) (told_whether result) }
     {
-        if self.no_circuit(circuit) {
-            return Err(Refusal::Unknown);
-        }
+        self.check_circuit(circuit)?;
         Ok(self.tables.is_open(circuit))
     }
 
     // How many routes of a standing feed use the circuit.
     pub fn uses(&self, feed: u32, circuit: u32) -> Result<u8, Refusal>
-        ensures { Promised S.Scale.measure (R.Register.network self.now.register) self.now.tables self.now.tables (tell (uses_call feed circuit)) (told_number result) }
+        ensures { Answered S.Scale.measure (R.Register.network self.now.register) self.now.tables self.now.tables (tell (uses_call feed circuit)) (told_number result) }
     {
-        if feed == 0 {
-            return Err(Refusal::Zero);
-        }
-        let Some(i) = self.tables.find_feed(feed) else {
-            return Err(Refusal::Unknown);
-        };
-        if self.no_circuit(circuit) {
-            return Err(Refusal::Unknown);
-        }
+        let i = standing(feed, self.tables.find_feed(feed))?;
+        self.check_circuit(circuit)?;
         Ok(self.tables.uses(i, circuit))
     }
 }

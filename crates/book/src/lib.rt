@@ -4,6 +4,8 @@
 
 mod answer;
 mod book;
+mod checks;
+mod writing;
 
 pub use answer::Pair;
 pub use book::Book;

@@ -1,7 +1,7 @@
 // An order to a new book, answered into the output buffer.
 ghost use Rattle.std.specs.Prelude.{◌≡◌, ◌<◌, ◌≤◌, length};
 ghost use Rattle.promise.specs.Ledger.{nothing_yet};
-ghost use Rattle.tables.specs.Standing.{ledger_of, Keeps};
+ghost use Rattle.tables.specs.Standing.{ledger_of};
 ghost use Rattle.host.specs.Entry.{Asked};
 ghost use Rattle.host.specs.Status.{order_status};
 
@@ -33,7 +33,6 @@ fn answer_by<R: Register + Drop>(
     second: &mut [u16],
     output: &mut [u8],
 ) -> Result<(), Refusal>
-    requires keeps { Keeps (R.Register.network book.now.register) book.now.tables }
     requires unused { ledger_of book.now.tables ≡ nothing_yet }
     requires lists { length first.old ≡ length second.old }
     requires short { length output.old < 516 → length first.old < 127 }
@@ -52,7 +51,6 @@ pub fn answer<R: Register + Drop>(
     ask: Ask,
     output: &mut [u8],
 ) -> Result<(), Refusal>
-    requires keeps { Keeps (R.Register.network book.now.register) book.now.tables }
     requires unused { ledger_of book.now.tables ≡ nothing_yet }
     ensures { Asked (R.Register.network book.now.register) ask.from ask.to ask.rate ask.mode output.old output.new (order_status result) }
 {

@@ -6,7 +6,7 @@ use Rattle.network.specs.Checks.{First, Passed}
 use Rattle.network.specs.declared.register.Circuit.{Circuit}
 use Rattle.network.specs.Network.{Sound}
 use Rattle.network.specs.Routes.{Each}
-use Rattle.network.proofs.Circuits.{sound_told}
+use Rattle.network.proofs.Ends.{sound_told}
 use Rattle.network.proofs.Verdicts.{Settled, both, below, upto, stable}
 use Rattle.image_format.specs.Image.{at16, PL, CT, EN, place_bytes, circuit_bytes, end_bytes, concat, records_bytes, Repeats, Different, Name, Records, Image, Marked, mark_checks, size, place_checks, told, circuit_checks, end_checks, Fault, Refused}
 use Rattle.image_format.specs.Claims.{At}

@@ -1,6 +1,7 @@
 -- The search for the widest rate: what is known of the rates on either side. Assumes nothing.
-use Rattle.std.proofs.Common.{◌≡◌, ℕ, suc, ◌+◌, ◌-◌, ◌/◌, ◌^◌, ◌<◌, ◌≤◌, false, ◌⊎◌, Some, None, Option, refl, subst, inl, inr, ⊎_elim, arith}
+use Rattle.std.proofs.Common.{◌≡◌, ℕ, suc, ◌+◌, ◌-◌, ◌/◌, ◌^◌, ◌<◌, ◌≤◌, false, ◌⊎◌, Ok, Err, Result, refl, sym, subst, inl, inr, ⊎_elim, arith}
 use native.Mathlib.Nat.{two-pow-succ}
+use Rattle.std.specs.Result.{result_or}
 use Rattle.std.proofs.lemmas.Bool.{both_ways}
 use Rattle.network.specs.declared.refusal.Refusal.{Refusal}
 use Rattle.network.specs.declared.refusal.Refusal.TheVariants as refusal
@@ -12,7 +13,7 @@ use Rattle.promise.specs.Promise.{Widest}
 use Rattle.promise.proofs.Plans.{Below, below_more, none_within_from_safest, not_no_pair, widest}
 use Rattle.tables.specs.Standing.{route_of}
 use Rattle.plan.specs.declared.plan.Plan.{Plan}
-use Rattle.plan.specs.Planned.{SafestPlan, Declined}
+use Rattle.plan.specs.Planned.{SafestPlan, Declined, WidestWithin}
 
 -- after that many turns of twenty, no more than this lies between the two rates
 abbrev pub Width : ℕ → ℕ → ℕ → Type 0
@@ -40,45 +41,44 @@ module _ {V : Type 0} (s : Measure V) (lawful : Lawful s) (n : Network) (l : Led
         none_within_from_safest s lawful n l a b m proper r (route_of p.first) (route_of p.second) p.cost limit good safe (both_ways (s.at_most p.cost limit) over),
       )
 
-  -- at the lower rate there is a safest pair within the limit; at 0 there is none yet
-  abbrev pub Had : ℕ → Option (Plan V) → Type 0
-  Had low None = low ≡ 0
-  Had low (Some p) = (1 ≤ low) × SafestPlan s n l a b m low p × AtMost s p.cost limit
-
   -- at the upper rate there is none, or it is past the largest rate
-  abbrev pub Lacked : ℕ → Refusal → Type 0
+  abbrev Lacked : ℕ → Refusal → Type 0
   Lacked high why = (high ≡ 1000001) ⊎ Declined s n l a b m high limit why
 
-  pub record Between (low high : ℕ) (best : Option (Plan V)) (why : Refusal) : Type 0 where
-    pub had : Had low best
-    pub lacked : Lacked high why
+  -- at the lower rate there is the safest pair within the limit that was found; at 0 there is none yet, and it is known why
+  abbrev Found : ℕ → ℕ → Result (ℕ × Plan V) Refusal → Type 0
+  Found low high (Ok p) = (p.0 ≡ low) × (1 ≤ low) × SafestPlan s n l a b m low p.1 × AtMost s p.1.cost limit
+  Found low high (Err why) = (low ≡ 0) × Lacked high why
 
   -- the rates that can be had within the limit are below the upper rate
-  lacked_below : (high : ℕ) (why : Refusal) → Lacked high why → Below s lawful n l a b m high limit
-  lacked_below high why lacked =
-      ⊎_elim
-      (λ (e : high ≡ 1000001). λ r' h rs ch w. omega (arith, e, h))
-      (λ d. ⊎_elim (λ none. below_more s lawful n l a b m high limit (inl none.1)) (λ none. below_more s lawful n l a b m high limit (inr none.2)) d)
-      lacked
+  pub record Between (low high : ℕ) (found : Result (ℕ × Plan V) Refusal) : Type 0 where
+    pub had : Found low high found
+    pub below : Below s lawful n l a b m high limit
+
+  pub between_all : Between 0 1000001 (Err refusal.NoPair)
+  between_all = record { had = (refl, inl refl); below = λ r' h rs ch w. omega arith }
 
   -- a turn raises the lower rate, or lowers the upper
-  pub raised : (low high rate : ℕ) (best : Option (Plan V)) (why : Refusal) (p : Plan V) → 1 ≤ rate → SafestPlan s n l a b m rate p × AtMost s p.cost limit → Between low high best why → Between rate high (Some p) why
-  raised low high rate best why p some safe known = record { had = (some, safe.0, safe.1); lacked = known.lacked }
+  pub raised : (low high rate : ℕ) (found : Result (ℕ × Plan V) Refusal) (p : Plan V) → 1 ≤ rate → SafestPlan s n l a b m rate p × AtMost s p.cost limit → Between low high found → Between rate high (Ok (rate, p))
+  raised low high rate found p some safe known = record { had = (refl, some, safe.0, safe.1); below = known.below }
 
-  pub lowered : (low high rate : ℕ) (best : Option (Plan V)) (why why' : Refusal) → Declined s n l a b m rate limit why' → Between low high best why → Between low rate best why'
-  lowered low high rate best why why' none known = record { had = known.had; lacked = inr none }
+  declined_below : (rate : ℕ) (why : Refusal) → Declined s n l a b m rate limit why → Below s lawful n l a b m rate limit
+  declined_below rate why (inl none) = below_more s lawful n l a b m rate limit (inl none.1)
+  declined_below rate why (inr none) = below_more s lawful n l a b m rate limit (inr none.2)
 
-  -- the end of the search: a rate to be had, and none above it
-  pub widest_had : (low high : ℕ) (p : Plan V) (why : Refusal) → low < high → high ≤ low + 1 → high ≤ 1000001 → Between low high (Some p) why → Widest s n l a b m limit low (route_of p.first) (route_of p.second) p.cost
-  widest_had low high p why o gap most known =
+  pub lowered : (low high rate : ℕ) (found : Result (ℕ × Plan V) Refusal) (why : Refusal) → Declined s n l a b m rate limit why → Between low high found → Between low rate (result_or found (Err why))
+  lowered low high rate (Ok p) why none known = record { had = known.had; below = declined_below rate why none }
+  lowered low high rate (Err e) why none known = record { had = (known.had.0, inr none); below = declined_below rate why none }
+
+  -- the end of the search: a rate to be had and none above it, or none to be had, at rate 1 either
+  pub searched : (low high : ℕ) (found : Result (ℕ × Plan V) Refusal) → low < high → high ≤ low + 1 → high ≤ 1000001 → Between low high found → WidestWithin s n l a b m limit found
+  searched low high (Ok p) o gap most known =
       let e : high ≡ low + 1 = omega arith in
       let had = known.had in
-      widest s lawful n l a b m low (route_of p.first) (route_of p.second) p.cost limit had.0 (omega arith) had.1 had.2
-      (subst (λ k. Below s lawful n l a b m k limit) e (lacked_below high why known.lacked))
-
-  -- or none to be had, at rate 1 either
-  pub none_had : (low high : ℕ) (why : Refusal) → low < high → high ≤ low + 1 → Between low high None why → Declined s n l a b m 1 limit why
-  none_had low high why o gap known =
-      let zero : low ≡ 0 = known.had in
+      subst (λ r. Widest s n l a b m limit r (route_of p.1.first) (route_of p.1.second) p.1.cost) (sym had.0)
+      (widest s lawful n l a b m low (route_of p.1.first) (route_of p.1.second) p.1.cost limit had.1 (omega arith) had.2 had.3
+      (subst (λ k. Below s lawful n l a b m k limit) e known.below))
+  searched low high (Err why) o gap most known =
+      let zero : low ≡ 0 = known.had.0 in
       let e : high ≡ 1 = omega arith in
-      ⊎_elim (λ (f : high ≡ 1000001). absurd (omega (arith, e, f))) (λ d. subst (λ k. Declined s n l a b m k limit why) e d) known.lacked
+      ⊎_elim (λ (f : high ≡ 1000001). absurd (omega (arith, e, f))) (λ d. subst (λ k. Declined s n l a b m k limit why) e d) known.had.1

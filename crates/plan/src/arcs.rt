@@ -7,15 +7,15 @@ ghost use Rattle.promise.specs.Lanes.{Lane, Lanes};
 ghost use Rattle.tables.specs.Standing.{Keeps, ledger_of};
 ghost use Rattle.plan.specs.Arcs.{ArcFor};
 
+use crate::question::Question;
 use network::{Circuit, Register};
 use promise::Mode;
 use search::{Arc, MAX_ARCS};
-use tables::Tables;
 
 // How many of two routes at that rate may use a circuit with so much left.
 pub fn lanes_of(mode: Mode, rate: u32, left: u32, closed: bool) -> u8
     ensures few { result ≤ 2 }
-    ensures lane { (n : Network) (l : Ledger) (c : ℕ) → left ≡ left_on n l c → (closed ≡ false → Open l c) → (closed ≡ true → Open l c → ⊥) → Lane n l mode rate c result }
+    ensures lane { (n : Network) (l : Ledger) (c : ℕ) → left ≡ left_on n l c → (closed ≡ false → Open l c) → (closed ≡ true → ¬ Open l c) → Lane n l mode rate c result }
 {
     if closed || left < rate {
         return 0;
@@ -37,42 +37,37 @@ pub fn circuit_at<R: Register>(register: &R, number: u16) -> Circuit
     circuit
 }
 
-// The arc of a circuit.
-fn arc_at<R: Register>(
-    register: &R,
-    tables: &Tables,
-    number: u16,
-    closed: bool,
-    rate: u32,
-    mode: Mode,
-) -> Arc
-    requires within { number < length (R.network register.now).circuits }
-    requires free { closed ≡ false → Open (ledger_of tables.now) number }
-    requires shut { closed ≡ true → Open (ledger_of tables.now) number → ⊥ }
-    ensures { ArcFor (R.network register.now) tables.now mode rate number result }
-{
-    let circuit = circuit_at(register, number);
-    let left = tables.left(number as u32).unwrap_or(0);
-    Arc {
-        from: circuit.from,
-        to: circuit.to,
-        lanes: lanes_of(mode, rate, left, closed),
+impl<'a, R: Register> Question<'a, R> {
+    // The arc of a circuit.
+    fn arc_at(&self, number: u16, closed: bool, rate: u32) -> Arc
+        requires within { number < length (R.network self.now.register.now).circuits }
+        requires free { closed ≡ false → Open (ledger_of self.now.tables.now) number }
+        requires shut { closed ≡ true → ¬ Open (ledger_of self.now.tables.now) number }
+        ensures { ArcFor (R.network self.now.register.now) self.now.tables.now self.now.mode rate number result }
+    {
+        let circuit = circuit_at(self.register, number);
+        let left = self.tables.left(number as u32).unwrap_or(0);
+        Arc {
+            from: circuit.from,
+            to: circuit.to,
+            lanes: lanes_of(self.mode, rate, left, closed),
+        }
     }
-}
 
-// An arc for each circuit, by its number; what stands past them means nothing.
-pub fn arcs<R: Register>(register: &R, tables: &Tables, rate: u32, mode: Mode) -> [Arc; MAX_ARCS]
-    ensures proper { Proper (take (length (R.network register.now).circuits) result) (R.network register.now).places }
-    ensures lanes { Keeps (R.network register.now) tables.now → Lanes (R.network register.now) (ledger_of tables.now) mode rate (take (length (R.network register.now).circuits) result) }
-{
-    let closed = tables.closed();
-    let mut arcs = [Arc {
-        from: 0,
-        to: 0,
-        lanes: 0,
-    }; MAX_ARCS];
-    for c in 0..register.circuits() {
-        arcs[c as usize] = arc_at(register, tables, c, closed[c as usize], rate, mode);
+    // An arc for each circuit, by its number; what stands past them means nothing.
+    pub fn arcs(&self, rate: u32) -> [Arc; MAX_ARCS]
+        ensures proper { Proper (take (length (R.network self.now.register.now).circuits) result) (R.network self.now.register.now).places }
+        ensures lanes { Keeps (R.network self.now.register.now) self.now.tables.now → Lanes (R.network self.now.register.now) (ledger_of self.now.tables.now) self.now.mode rate (take (length (R.network self.now.register.now).circuits) result) }
+    {
+        let closed = self.tables.closed();
+        let mut arcs = [Arc {
+            from: 0,
+            to: 0,
+            lanes: 0,
+        }; MAX_ARCS];
+        for c in 0..self.register.circuits() {
+            arcs[c as usize] = self.arc_at(c, closed[c as usize], rate);
+        }
+        arcs
     }
-    arcs
 }

@@ -3,7 +3,9 @@
 
 mod arcs;
 mod plan;
+mod question;
 mod widest;
 
-pub use plan::{Plan, safest_at};
-pub use widest::{MAX_RATE, safest_within, widest_within};
+pub use plan::Plan;
+pub use question::Question;
+pub use widest::MAX_RATE;

@@ -1,15 +1,15 @@
 // The safest pair at a rate.
-ghost use Rattle.std.specs.Prelude.{◌≡◌, ◌<◌, [], ◌∷◌, ◌≢◌};
+ghost use Rattle.std.specs.Prelude.{◌≡◌, [], ◌∷◌};
 ghost use Rattle.scale.specs.Measure.{shared_cost};
 ghost use Rattle.tables.specs.Standing.{Keeps, route_of, ledger_of};
 ghost use Rattle.plan.specs.Arcs.{FoundAt};
 ghost use Rattle.plan.specs.Planned.{SafestAt};
 
-use crate::arcs::{arcs, circuit_at};
+use crate::arcs::circuit_at;
+use crate::question::Question;
 use network::Register;
-use promise::Mode;
 use scale::Scale;
-use tables::{MAX_ROUTE, Route, Tables, marks};
+use tables::{MAX_ROUTE, Route, marks};
 
 // Two routes, and the cost of what they share.
 #[derive(Clone, Copy)]
@@ -19,79 +19,60 @@ pub struct Plan<V> {
     pub cost: V,
 }
 
-// Two routes that share only what every route at that rate needs. None: no two can be had.
-fn pair_at<R: Register>(
-    register: &R,
-    tables: &Tables,
-    from: u32,
-    to: u32,
-    rate: u32,
-    mode: Mode,
-) -> Option<(Route, Route)>
-    requires from { from < (R.network register.now).places }
-    requires to { to < (R.network register.now).places }
-    requires apart { from ≢ to }
-    ensures { Keeps (R.network register.now) tables.now → FoundAt (R.network register.now) (ledger_of tables.now) from to mode rate result }
-{
-    let arcs = arcs(register, tables, rate, mode);
-    let arcs = &arcs[0..register.circuits() as usize];
-    let places = register.places() as usize;
-    let mut first = [0; MAX_ROUTE];
-    let mut second = [0; MAX_ROUTE];
-    let (n, m) = search::pair(
-        arcs,
-        places,
-        from as usize,
-        to as usize,
-        &mut first,
-        &mut second,
-    )?;
-    let first = Route {
-        length: n,
-        circuits: first,
-    };
-    let second = Route {
-        length: m,
-        circuits: second,
-    };
-    Some((first, second))
-}
-
-// The cost of the circuits that both routes use.
-pub fn shared_cost<R: Register, S: Scale>(register: &R, first: &Route, second: &Route) -> S::Value
-    ensures { result ≡ shared_cost S.measure (R.network register.now) (route_of first.now ∷ route_of second.now ∷ []) }
-{
-    let in_first = marks(first);
-    let in_second = marks(second);
-    let mut cost = S::zero();
-    for c in 0..register.circuits() {
-        let shared = in_first[c as usize] & in_second[c as usize];
-        if shared {
-            cost = S::join(cost, S::weight(circuit_at(register, c).cost));
-        }
+impl<'a, R: Register> Question<'a, R> {
+    // Two routes that share only what every route at that rate needs. None: no two can be had.
+    fn pair_at(&self, rate: u32) -> Option<(Route, Route)>
+        ensures { Keeps (R.network self.now.register.now) self.now.tables.now → FoundAt (R.network self.now.register.now) (ledger_of self.now.tables.now) self.now.from self.now.to self.now.mode rate result }
+    {
+        let arcs = self.arcs(rate);
+        let arcs = &arcs[0..self.register.circuits() as usize];
+        let mut first = [0; MAX_ROUTE];
+        let mut second = [0; MAX_ROUTE];
+        let (n, m) = search::pair(
+            arcs,
+            self.register.places() as usize,
+            self.from as usize,
+            self.to as usize,
+            &mut first,
+            &mut second,
+        )?;
+        let first = Route {
+            length: n,
+            circuits: first,
+        };
+        let second = Route {
+            length: m,
+            circuits: second,
+        };
+        Some((first, second))
     }
-    cost
-}
 
-// A pair that shares as little as any set of routes that can carry the rate. None: no set can.
-pub fn safest_at<R: Register, S: Scale>(
-    register: &R,
-    tables: &Tables,
-    from: u32,
-    to: u32,
-    rate: u32,
-    mode: Mode,
-) -> Option<Plan<S::Value>>
-    requires from { from < (R.network register.now).places }
-    requires to { to < (R.network register.now).places }
-    requires apart { from ≢ to }
-    ensures { Keeps (R.network register.now) tables.now → SafestAt S.measure (R.network register.now) (ledger_of tables.now) from to mode rate result }
-{
-    let (first, second) = pair_at(register, tables, from, to, rate, mode)?;
-    let cost = shared_cost::<R, S>(register, &first, &second);
-    Some(Plan {
-        first,
-        second,
-        cost,
-    })
+    // The cost of the circuits that both routes use.
+    fn shared_cost<S: Scale>(&self, first: &Route, second: &Route) -> S::Value
+        ensures { result ≡ shared_cost S.measure (R.network self.now.register.now) (route_of first.now ∷ route_of second.now ∷ []) }
+    {
+        let in_first = marks(first);
+        let in_second = marks(second);
+        let mut cost = S::zero();
+        for c in 0..self.register.circuits() {
+            let shared = in_first[c as usize] & in_second[c as usize];
+            if shared {
+                cost = S::join(cost, S::weight(circuit_at(self.register, c).cost));
+            }
+        }
+        cost
+    }
+
+    // A pair that shares as little as any set of routes that can carry the rate. None: no set can.
+    pub fn safest_at<S: Scale>(&self, rate: u32) -> Option<Plan<S::Value>>
+        ensures { Keeps (R.network self.now.register.now) self.now.tables.now → SafestAt S.measure (R.network self.now.register.now) (ledger_of self.now.tables.now) self.now.from self.now.to self.now.mode rate result }
+    {
+        let (first, second) = self.pair_at(rate)?;
+        let cost = self.shared_cost::<S>(&first, &second);
+        Some(Plan {
+            first,
+            second,
+            cost,
+        })
+    }
 }

@@ -3,7 +3,7 @@
 
 ghost use Rattle.std.specs.Prelude.{◌≡◌, ◌≤◌, length, IfOk, Ok, Err, vec_len};
 ghost use Rattle.promise.specs.Promise.{Run};
-ghost use Rattle.book.specs.Answered.{Promised, planned as planned_answer, acted as acted_answer, told_number, told_whether};
+ghost use Rattle.book.specs.Answered.{Answered, planned as planned_answer, acted as acted_answer, told_number, told_whether};
 ghost use Rattle.calls.specs.Calls.{call_of, answer_of, entries};
 
 use book::{Book, Pair};
@@ -83,7 +83,7 @@ fn play<R: Register + Drop, S: Scale + Drop>(
     book: &mut Book<R, S>,
     order: Order<S::Value>,
 ) -> Result<Answer<S::Value>, AllocError>
-    ensures { IfOk result (λ a. (book.new.register ≡ book.old.register) × Promised S.Scale.measure (R.Register.network book.old.register) book.old.tables book.new.tables (call_of order) (answer_of a)) }
+    ensures { IfOk result (λ a. (book.new.register ≡ book.old.register) × Answered S.Scale.measure (R.Register.network book.old.register) book.old.tables book.new.tables (call_of order) (answer_of a)) }
 {
     let mut first = [0; MAX_ROUTE];
     let mut second = [0; MAX_ROUTE];

@@ -1,8 +1,7 @@
-use Rattle.std.proofs.Common.{◌≡◌, [], ◌∷◌, ◌++◌, take, vec_items, sym, refl, ap, ◌∙◌, subst, arith, rules}
+use Rattle.std.proofs.Common.{◌≡◌, [], ◌∷◌, ◌++◌, take, vec_items, refl, ap, ◌∙◌, subst, arith, rules}
 use Rattle.std.proofs.lemmas.List.{take_all}
 use Rattle.network.specs.Network.{Network}
 use Rattle.promise.specs.Promise.{Run}
-use Rattle.tables.specs.Standing.{Keeps}
 use Rattle.book.specs.Answered.{Answered}
 use Rattle.calls.specs.Calls.{call_of, answer_of, entries}
 use Rattle.runs.proofs.Running.{so_far_more}
@@ -11,7 +10,7 @@ use Rattle.runs.proofs.run.Goals as goal
 pub loop-order-init : goal.loop-order-init
 loop-order-init g c =
     let made = c.in_ok-book.ensures in
-    (search rules, refl, subst (λ r. Keeps (g.R.Register.network r) c.in_ok-book.book.tables) (sym made.0) made.2, record { ledger = made.1; kept = tt })
+    (search rules, refl, record { ledger = made.1; kept = tt })
 
 pub loop-order-preserved : goal.loop-order-preserved
 loop-order-preserved g c =
@@ -24,12 +23,11 @@ loop-order-preserved g c =
     let t = c.loop-order.book.tables in
     let t' = c.play.new.book.tables in
     let same : g.R.Register.network c.loop-order.book.register ≡ n = ap g.R.Register.network inv.1 in
-    let answered : Answered s n t t' (call_of o) (answer_of a) = subst (λ (m : Network). Answered s m t t' (call_of o) (answer_of a)) same (played.1 (subst (λ (m : Network). Keeps m t) (sym same) inv.2)) in
+    let answered : Answered s n t t' (call_of o) (answer_of a) = subst (λ (m : Network). Answered s m t t' (call_of o) (answer_of a)) same played.1 in
     let pushed : vec_items c.push.new.self ≡ vec_items c.loop-order.answers ++ a ∷ [] = search rules in (
       search rules,
       played.0 ∙ inv.1,
-      answered.keeps,
-      so_far_more s n t t' c.args.orders.now (vec_items c.loop-order.answers) (vec_items c.push.new.self) c.loop-order.order-index o a c.loop-order-test.true (omega (arith, inv.0, c.loop-order.answers.ok.0)) c.order-item.is pushed inv.3 answered,
+      so_far_more s n t t' c.args.orders.now (vec_items c.loop-order.answers) (vec_items c.push.new.self) c.loop-order.order-index o a c.loop-order-test.true (omega (arith, inv.0, c.loop-order.answers.ok.0)) c.order-item.is pushed inv.2 answered,
     )
 
 pub returns : goal.returns
@@ -41,5 +39,5 @@ returns g c =
     let answers = vec_items c.loop-order.answers in
     let all : take c.loop-order.order-index orders ≡ orders = take_all c.loop-order.order-index orders c.loop-order-test.false in (
       omega (arith, inv.0, c.loop-order.auto.order-index-end, c.loop-order-test.false),
-      subst (λ r. Run s (g.R.Register.network r) (entries orders answers)) made.0 (subst (λ os. Run s (g.R.Register.network c.in_ok-book.book.register) (entries os answers)) all inv.3.kept),
+      subst (λ r. Run s (g.R.Register.network r) (entries orders answers)) made.0 (subst (λ os. Run s (g.R.Register.network c.in_ok-book.book.register) (entries os answers)) all inv.2.kept),
     )

@@ -11,7 +11,7 @@ returns g c =
     let n = g.R.Register.network c.args.book.now.register in
     let a = c.args.ask in
     let pair = c.in_ok-pair.pair in
-    let right = (c.in_ok-pair.ensures.right c.requires.keeps).right in
+    let right = c.in_ok-pair.ensures.right.right in
     inl (
       refl,
       record {

@@ -1,7 +1,8 @@
-use Rattle.std.proofs.Common.{refl, arith}
+use Rattle.std.proofs.Common.{arith}
+use Rattle.promise.specs.Promise.{pair}
 use Rattle.tables.specs.Standing.{route_of}
 use Rattle.book.proofs.Planning.{written}
-use Rattle.book.proofs.book.write_pair.Goals as goal
+use Rattle.book.proofs.writing.write_pair.Goals as goal
 
 pub returns : goal.returns
 returns g c =
@@ -9,7 +10,6 @@ returns g c =
     let first = written p.first.length (route_of p.first) c.args.first.now c.write_route.new.list (omega (arith, p.first.short, c.requires.first)) c.write_route.auto.list c.write_route.ensures in
     let second = written p.second.length (route_of p.second) c.args.second.now c.write_route-2.new.list (omega (arith, p.second.short, c.requires.second)) c.write_route-2.auto.list c.write_route-2.ensures in
     record {
-      pair = (refl, refl);
-      routes = (first.0, second.0);
+      answer = λ i. pair c.args.rate (first.0 i) (second.0 i) p.cost;
       lists = (p.first.short, p.second.short, first.1, second.1);
     }

@@ -2,18 +2,18 @@ use Rattle.std.proofs.Common.{◌+◌, ◌<◌, true, false, [], ◌∷◌, leng
 use Rattle.scale.proofs.Costs.{SoFar, cost_none, cost_all}
 use Rattle.tables.specs.Standing.{route_of}
 use Rattle.plan.proofs.Sharing.{cost_marked}
-use Rattle.plan.proofs.plan.shared_cost.Goals as goal
-use Rattle.plan.proofs.plan.shared_cost.Goals.{then-shared, else-shared}
+use Rattle.plan.proofs.question.Question.shared_cost.Goals as goal
+use Rattle.plan.proofs.question.Question.shared_cost.Goals.{then-shared, else-shared}
 
 pub loop-c-init : goal.loop-c-init
 loop-c-init g c =
-    let x = c.args.register.now in
+    let x = c.args.self.now.register.now in
     let rs = route_of c.args.first.now ∷ route_of c.args.second.now ∷ [] in
     subst (SoFar g.S.Scale.measure g.met.S.Scale.lawful (g.R.Register.network x) rs 0) (sym c.zero-cost.ensures) (cost_none _ g.met.S.Scale.lawful _ (g.R.Register.proper x) rs)
 
 pub loop-c-preserved : goal.loop-c-preserved
 loop-c-preserved g c =
-    let x = c.args.register.now in
+    let x = c.args.self.now.register.now in
     let n = g.R.Register.network x in
     let proper = g.R.Register.proper x in
     let first = route_of c.args.first.now in
@@ -35,6 +35,6 @@ loop-c-preserved g c =
 
 pub returns : goal.returns
 returns g c =
-    let n = g.R.Register.network c.args.register.now in
+    let n = g.R.Register.network c.args.self.now.register.now in
     let rs = route_of c.args.first.now ∷ route_of c.args.second.now ∷ [] in
     cost_all g.S.Scale.measure g.met.S.Scale.lawful n rs c.loop-c.c c.loop-c.cost (omega arith) c.loop-c.invariant

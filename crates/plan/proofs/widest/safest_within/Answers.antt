@@ -1,9 +1,0 @@
-use Rattle.std.proofs.Common.{sym, ap, ◌∙◌}
-use Rattle.plan.proofs.Rates.{beyond}
-use Rattle.plan.proofs.widest.safest_within.Goals as goal
-
-pub returns-else-at_most : goal.returns-else-at_most
-returns-else-at_most g c =
-    λ keeps.
-    beyond _ g.met.S.Scale.lawful _ _ _ _ _ _ (g.R.Register.proper _) c.held-limit.ensures.value _ c.in-Some.plan (c.in-Some.ensures keeps)
-    (ap (λ x. g.S.Scale.measure.at_most c.in-Some.plan.cost x) (sym c.held-limit.ensures.same) ∙ sym c.if-at_most.ensures)
