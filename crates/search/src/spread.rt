@@ -44,9 +44,10 @@ impl Seen {
 
     // Whether a place was seen.
     fn has(&self, place: usize) -> bool
+        requires { place < 128 }
         ensures { result ≡ nat_lt 0 (slice_index self.now.rank place) }
     {
-        self.rank.get(place).is_some_and(|rank| *rank > 0)
+        self.rank[place] > 0
     }
 
     // Notes a place as seen by an arc, unless it was seen before.
