@@ -44,9 +44,10 @@ impl Seen {
 
     // Whether a place was seen.
     fn has(&self, place: usize) -> bool
+        requires { place < 128 }
         ensures { result ≡ nat_lt 0 (slice_index self.now.rank place) }
     {
-        self.rank.get(place).is_some_and(|rank| *rank > 0)
+        self.rank[place] > 0
     }
 
     // Notes a place as seen by an arc, unless it was seen before.
@@ -126,45 +127,47 @@ impl Seen {
     }
 }
 
-// Looks for a way from `from` to `to` by which one unit more can go: first all that arcs without flow lead to, or arcs with
-// flow lead back to; where that is all, on through the gate, an arc that every route needs. None: there are no two routes.
-pub(crate) fn explore(graph: &Graph<'_>, flow: &[u8; MAX_ARCS], ends: Ends) -> Option<Seen>
-    requires sound { (k : ℕ) × (k ≤ 1) × Sound graph.now.arcs.now flow.now k ends.from ends.to }
-    ensures { MatchOption result (Refused graph.now.arcs.now ends.from ends.to) (λ s. Reached graph.now.arcs.now flow.now (Free graph.now.arcs.now flow.now ends.from ends.to) ends.from ends.to s.rank s.via) }
-{
-    let mut seen = Seen::new(ends.from);
-    // Of the places in `order`, how many were scanned, and how many have no gate any more.
-    let mut done = 0;
-    let mut held = 0;
-    while !seen.has(ends.to) {
-        if done < seen.count {
-            let place = seen.order[done] as usize;
-            seen.scan(graph, flow, place);
-            done += 1;
-        } else {
-            let (start, c) = seen.gate(graph, held)?;
-            let arc = graph.arcs[c];
-            if arc.lanes < BOTH {
-                return None;
+impl<'a> Graph<'a> {
+    // Looks for a way from `from` to `to` by which one unit more can go: first all that arcs without flow lead to, or arcs with
+    // flow lead back to; where that is all, on through the gate, an arc that every route needs. None: there are no two routes.
+    pub(crate) fn explore(&self, flow: &[u8; MAX_ARCS], ends: Ends) -> Option<Seen>
+        requires sound { (k : ℕ) × (k ≤ 1) × Sound self.now.arcs.now flow.now k ends.from ends.to }
+        ensures { MatchOption result (Refused self.now.arcs.now ends.from ends.to) (λ s. Reached self.now.arcs.now flow.now (Free self.now.arcs.now flow.now ends.from ends.to) ends.from ends.to s.rank s.via) }
+    {
+        let mut seen = Seen::new(ends.from);
+        // Of the places in `order`, how many were scanned, and how many have no gate any more.
+        let mut done = 0;
+        let mut held = 0;
+        while !seen.has(ends.to) {
+            if done < seen.count {
+                let place = seen.order[done] as usize;
+                seen.scan(self, flow, place);
+                done += 1;
+            } else {
+                let (start, c) = seen.gate(self, held)?;
+                let arc = self.arcs[c];
+                if arc.lanes < BOTH {
+                    return None;
+                }
+                seen.see(arc.to as usize, c);
+                held = start;
             }
-            seen.see(arc.to as usize, c);
-            held = start;
         }
+        Some(seen)
     }
-    Some(seen)
-}
 
-// Finds the places from which the flow comes to `to`, as far back as `from`.
-pub(crate) fn gather(graph: &Graph<'_>, flow: &[u8; MAX_ARCS], ends: Ends) -> Seen
-    requires carries { (k : ℕ) × Carries graph.now.arcs.now flow.now (k + 1) ends.from ends.to }
-    ensures { Reached graph.now.arcs.now flow.now Never ends.to ends.from result.rank result.via }
-{
-    let mut seen = Seen::new(ends.to);
-    let mut done = 0;
-    while !seen.has(ends.from) {
-        let place = seen.order[done] as usize;
-        seen.go_back(graph, flow, place);
-        done += 1;
+    // Finds the places from which the flow comes to `to`, as far back as `from`.
+    pub(crate) fn gather(&self, flow: &[u8; MAX_ARCS], ends: Ends) -> Seen
+        requires carries { (k : ℕ) × Carries self.now.arcs.now flow.now (k + 1) ends.from ends.to }
+        ensures { Reached self.now.arcs.now flow.now Never ends.to ends.from result.rank result.via }
+    {
+        let mut seen = Seen::new(ends.to);
+        let mut done = 0;
+        while !seen.has(ends.from) {
+            let place = seen.order[done] as usize;
+            seen.go_back(self, flow, place);
+            done += 1;
+        }
+        seen
     }
-    seen
 }

@@ -1,7 +1,7 @@
 use Rattle.std.proofs.Common.{◌∙◌, ap}
 use Rattle.search.specs.Remaining.{arcs_left}
 use Rattle.search.proofs.Spreads.{spread_none, spread_at, spread_by, by_back}
-use Rattle.search.proofs.Rolled.{stays, is_place}
+use Rattle.search.proofs.Rolled.{stays}
 use Rattle.search.proofs.spread.Seen.go_back.Goals as goal
 
 pub loop-c-init : goal.loop-c-init
@@ -15,6 +15,3 @@ loop-c-preserved-then-flow-c-gt0 c =
     let at = spread_at _ _ _ _ _ _ _ _ _ _ _ turn _ old in
     let seen = stays _ _ _ _ _ old.more _ c.requires in
     spread_by _ _ _ _ _ _ _ _ _ _ _ turn _ old _ (by_back _ _ _ _ _ _ seen at c.if-flow-c-gt0.true c.see.ensures) c.see.ensures.seen
-
-pub entering-c-items-requires : goal.entering-c-items-requires
-entering-c-items-requires c = is_place c.args.self.now _ c.requires

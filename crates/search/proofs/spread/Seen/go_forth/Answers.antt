@@ -2,7 +2,7 @@ use Rattle.std.proofs.Common.{◌∙◌, ap, arith}
 use Rattle.search.specs.Remaining.{arcs_left}
 use Rattle.search.specs.Rolls.{Unused}
 use Rattle.search.proofs.Spreads.{spread_none, spread_at, spread_past, spread_by, by_forth, unused}
-use Rattle.search.proofs.Rolled.{stays, is_place}
+use Rattle.search.proofs.Rolled.{stays}
 use Rattle.search.proofs.spread.Seen.go_forth.Goals as goal
 use Rattle.search.proofs.spread.Seen.go_forth.Goals.{else-arc-gt0-via-then-arc-gt0+else-flow-c-eq0, else-arc-gt0-via-else-arc-gt0}
 
@@ -31,6 +31,3 @@ loop-c-preserved c =
       | else-arc-gt0-via-else-arc-gt0 w ↦ omega (arith, w.if-arc-gt0.false, u.usable, lanes)
     ] in
     spread_past _ _ _ _ _ _ _ _ _ _ _ turn _ old not
-
-pub leaving-c-items-requires : goal.leaving-c-items-requires
-leaving-c-items-requires c = is_place c.args.self.now _ c.requires

@@ -1,14 +1,26 @@
 use Rattle.std.proofs.Common.{rules, ◌≡◌, ℕ, ◌<◌, Some, None, get_or, sym, ap, ◌∙◌, subst, arith}
 use borrow.Author.Tests.{tests}
 use Rattle.std.proofs.lemmas.Iterator.{first_from_find}
+use Rattle.std.proofs.lemmas.Iterator.Adapters.{serves_from_places}
 use Rattle.std.proofs.lemmas.Iterator.Consumers.{YieldsList-from_first}
 use Rattle.std.proofs.lemmas.List.Elements.{All-from_all_within}
 use Rattle.search.specs.declared.Arc.{Arc}
-use Rattle.search.specs.declared.graph.By.TheVariants.{Start}
+use Rattle.search.specs.declared.graph.By.TheVariants.{Start, End}
 use Rattle.search.specs.Remaining.{arcs_left}
 use Rattle.search.specs.Rolls.{IsSeen}
-use Rattle.search.proofs.Chained.{each_at, found_at}
+use Rattle.search.proofs.Chained.{end_within, each_at, found_at}
 use Rattle.search.proofs.spread.Seen.leaving_arc.Goals as goal
+
+pub find-requires-clause-callable : goal.find-requires-clause-callable
+find-requires-clause-callable c =
+    let g = c.args.graph.now in
+    serves_from_places
+    (YieldsList-from_first (λ x. x) arcs_left _ c.leaving.ensures)
+    (λ x q k. search (rules, tests))
+    (λ x k l e.
+    let at = found_at g.arcs.now Start c.args.place k x l (sym e) in
+    let to_in : x.1.to < 128 = omega (arith, end_within g.arcs.now 128 g.proper End x.0 at.is, ap (λ a. a.to) at.same) in
+    λ y same _ _ _ _ _ _ _ _ _. subst (λ z. z.1.to < 128) (sym same) to_in)
 
 pub returns-in_err-c : goal.returns-in_err-c
 returns-in_err-c c =

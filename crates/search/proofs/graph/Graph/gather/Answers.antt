@@ -1,13 +1,13 @@
 use Rattle.std.proofs.Common.{◌<◌, ◌≤◌, length, arith}
 use Rattle.search.proofs.Rolled.{unseen, on_roll}
 use Rattle.search.proofs.Explores.{begun_scan, to_do}
-use Rattle.search.proofs.spread.gather.Goals as goal
-use Rattle.search.proofs.spread.gather.Goals.{In-loop-ends}
+use Rattle.search.proofs.graph.Graph.gather.Goals as goal
+use Rattle.search.proofs.graph.Graph.gather.Goals.{In-loop-ends}
 
 -- something is carried, so there is a place to go on from
 left : (c : In-loop-ends) → c.loop-ends.done < c.loop-ends.seen.count
 left c =
-    let long : length c.args.graph.now.arcs.now ≤ length c.args.flow.now = omega (arith, c.args.graph.now.proper.few_arcs, c.told-flow) in
+    let long : length c.args.self.now.arcs.now ≤ length c.args.flow.now = omega (arith, c.args.self.now.proper.few_arcs, c.told-flow) in
     to_do _ _ c.requires.carries.0 _ _ _ _ long c.requires.carries.1 c.loop-ends.invariant (unseen _ c.loop-ends-test.ensures)
 
 pub bounds-seen-done : goal.bounds-seen-done
