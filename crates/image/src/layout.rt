@@ -93,7 +93,7 @@ impl<'a> Scan<'a> {
         false
     }
 
-    // One place more.
+    // The scan one place further, or the first check that the place fails.
     #[tactic(auto, using(crate::proofs::Loading::place_refused))]
     fn place(&self) -> Result<Scan<'a>, Refusal>
         requires { MarkAt self.now.image.now (end_of self.now.layout) Mark.Place }
@@ -131,7 +131,7 @@ impl<'a> Scan<'a> {
         })
     }
 
-    // One circuit more.
+    // The scan one circuit further, or the first check that the circuit fails.
     #[tactic(auto, using(crate::proofs::Loading::circuit_refused))]
     fn circuit(&self) -> Result<Scan<'a>, Refusal>
         requires { MarkAt self.now.image.now (end_of self.now.layout) Mark.Circuit }
@@ -181,7 +181,7 @@ impl<'a> Scan<'a> {
         Ok(())
     }
 
-    // One record more, or nothing where the next is the end.
+    // The scan one record further, nothing at a sound end, or the first check that the record fails.
     fn step(&self) -> Result<Option<Scan<'a>>, Refusal>
         ensures { MatchResult result
             (λ next. MatchOption next (Complete self.now.image.now self.now.layout)
