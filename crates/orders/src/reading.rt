@@ -6,6 +6,7 @@ ghost use Rattle.orders.specs.Meanings.{LineMeans, LinesSplit, OneMeaning};
 
 use crate::forms::statement;
 use crate::statement::Statement;
+use arrayvec::ArrayVec;
 use words::{Fault, Limit};
 
 // What begins a comment.
@@ -56,18 +57,16 @@ fn next_word(line: &[u8]) -> Option<(&[u8], &[u8])>
 pub fn read<S: Limit>(line: &[u8], names: &[&[u8]]) -> Result<Statement<S::Value>, Fault>
     ensures { Reads result (LineMeans S.Limit.spells (texts names.now) line.now) }
 {
-    let mut words: [&[u8]; MAX_WORDS] = [&[]; MAX_WORDS];
-    let mut count = 0;
+    let mut words: ArrayVec<&[u8], MAX_WORDS> = ArrayVec::new();
     let mut rest = line;
-    while count < MAX_WORDS {
+    while !words.is_full() {
         let Some((word, after)) = next_word(rest) else {
             break;
         };
-        words[count] = word;
-        count += 1;
+        words.push(word);
         rest = after;
     }
-    statement::<S>(&words[..count], names)
+    statement::<S>(&words, names)
 }
 
 // Every line has words, whatever its bytes are, and just one list of words.
