@@ -14,7 +14,7 @@ use Rattle.image_format.specs.Image.{at16, PL, CT, EN, Repeats, Refused, place_c
 use Rattle.image.specs.Layout.{name_from, after_place, place_offset, names_in, circuit_from, circuits_in, end_of, Scanned, Complete, MarkAt}
 use Rattle.network.specs.Network.{Sound, BadEnds, BadFigures}
 use Rattle.network.specs.Refusals.{number_of}
-use Rattle.network.proofs.Circuits.{sound_told}
+use Rattle.network.proofs.Ends.{sound_told}
 use Rattle.image_format.proofs.Figures.{at16_drop}
 use Rattle.image.proofs.Offsets.{offset_more}
 use Rattle.image_format.proofs.Steps as steps

@@ -5,7 +5,7 @@ use Rattle.network.specs.Checks.{First, Passed}
 use Rattle.network.specs.declared.register.Circuit.{Circuit}
 use Rattle.network.specs.Network.{Sound, BadEnds, BadFigures}
 use Rattle.network.specs.Routes.{Each}
-use Rattle.network.proofs.Circuits.{good_ends, good_figures}
+use Rattle.network.proofs.Ends.{good_ends, good_figures}
 use Rattle.network.proofs.Verdicts.{one_first, passed_first}
 use Rattle.image_format.specs.Image.{PL, CT, EN, place_bytes, circuit_bytes, end_bytes, concat, records_bytes, Repeats, Different, Name, Records, Image, Marked, mark_checks, place_checks, told, circuit_checks, end_checks, Fault, Refused}
 use Rattle.image_format.proofs.Figures.{two_of, four_of, same16, same32}

@@ -4,7 +4,7 @@ use Rattle.std.proofs.lemmas.List.{nil_from_length}
 use Rattle.std.proofs.lemmas.Bool.{cases_eq}
 use Rattle.network.specs.Checks.{Passed}
 use Rattle.network.specs.declared.register.Circuit.{Circuit}
-use Rattle.network.proofs.Circuits.{sound_told, ends_settled, figures_settled}
+use Rattle.network.proofs.Ends.{sound_told, ends_settled, figures_settled}
 use Rattle.network.proofs.Verdicts.{Settled, both, either, opposite, below, upto, stable, Verdict, verdict}
 use Rattle.image_format.specs.Image.{at16, PL, CT, EN, records_bytes, Repeats, Marked, mark_checks, place_checks, told, circuit_checks, end_checks, Fault}
 use Rattle.image_format.specs.Claims.{Loads, Fails, Outcome, At}

@@ -1,5 +1,6 @@
-pub mod Circuits
+pub mod Ends
 pub mod Counts
 pub mod Lists
 pub mod Tables
+pub mod Told
 pub mod Verdicts

@@ -4,7 +4,7 @@ use Rattle.std.proofs.lemmas.Bool.{cases_lt}
 use Rattle.network.specs.Checks.{First, Passed}
 use Rattle.network.specs.Network.{Network, Sound, Proper, circuit}
 use Rattle.network.specs.Table.{Fails, ProperNotRefused, OneTableRefusal, ProperOrRefused, count_checks, record_checks}
-use Rattle.network.proofs.Circuits.{good_ends, good_figures, sound_told, ends_settled, figures_settled}
+use Rattle.network.proofs.Ends.{good_ends, good_figures, sound_told, ends_settled, figures_settled}
 use Rattle.network.proofs.Verdicts.{one_first, passed_first, Verdict, either, below, verdict}
 
 module _ (n : Network) where

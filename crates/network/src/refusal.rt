@@ -6,50 +6,31 @@ use std::fmt;
 
 #[derive(Clone, Copy, PartialEq, Eq, Debug)]
 pub enum Refusal {
-    Short,
-    Mark,
-    Name,
-    Order,
-    Ends,
-    Figure,
-    Full,
-    Tail,
-    Zero,
-    Taken,
-    Unknown,
-    Crowded,
-    Places,
-    Rate,
-    List,
-    NoPair,
-    Limit,
-    Mode,
+    Short = 1,
+    Mark = 2,
+    Name = 3,
+    Order = 4,
+    Ends = 5,
+    Figure = 6,
+    Full = 7,
+    Tail = 8,
+    Zero = 9,
+    Taken = 10,
+    Unknown = 11,
+    Crowded = 12,
+    Places = 13,
+    Rate = 14,
+    List = 15,
+    NoPair = 16,
+    Limit = 17,
+    Mode = 18,
 }
 
 impl Refusal {
     pub fn number(self) -> u8
         ensures { result ≡ number_of self }
     {
-        match self {
-            Refusal::Short => 1,
-            Refusal::Mark => 2,
-            Refusal::Name => 3,
-            Refusal::Order => 4,
-            Refusal::Ends => 5,
-            Refusal::Figure => 6,
-            Refusal::Full => 7,
-            Refusal::Tail => 8,
-            Refusal::Zero => 9,
-            Refusal::Taken => 10,
-            Refusal::Unknown => 11,
-            Refusal::Crowded => 12,
-            Refusal::Places => 13,
-            Refusal::Rate => 14,
-            Refusal::List => 15,
-            Refusal::NoPair => 16,
-            Refusal::Limit => 17,
-            Refusal::Mode => 18,
-        }
+        self as u8
     }
 
     pub fn word(self) -> &'static str

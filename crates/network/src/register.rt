@@ -1,5 +1,5 @@
 // A register of circuits: what it means, and what it tells.
-ghost use Rattle.std.specs.Prelude.{◌≡◌, ◌<◌, ◌≤◌, length, Some, None, Decides};
+ghost use Rattle.std.specs.Prelude.{◌≡◌, ◌<◌, ◌≤◌, length, MatchOption, Decides};
 ghost use Rattle.network.specs.Network.{Network, BadEnds, BadFigures, Proper, circuit as circuit_of};
 
 // What a register holds at most, in places and in circuits.
@@ -53,5 +53,5 @@ pub trait Register {
 
     // The figures of a circuit, or nothing where there is none of that number.
     fn circuit(&self, number: u32) -> Option<Circuit>
-        ensures { elim result [ None ↦ length (network self.now).circuits ≤ number | Some c ↦ (number < length (network self.now).circuits) × (c ≡ circuit_of (network self.now) number) ] };
+        ensures { MatchOption result (length (network self.now).circuits ≤ number) (λ c. (number < length (network self.now).circuits) × (c ≡ circuit_of (network self.now) number)) };
 }

@@ -1,5 +1,5 @@
 // The main route of an answer, and what is no route.
-ghost use Rattle.std.specs.Prelude.{◌≡◌, ◌≤◌, length, Ok, Err};
+ghost use Rattle.std.specs.Prelude.{◌≡◌, ◌≤◌, length, MatchResult};
 ghost use Rattle.network.specs.MainRoute.{shorter, Beyond};
 ghost use Rattle.network.specs.Round.{RoundIsNoRoute};
 
@@ -13,21 +13,18 @@ pub fn main_route<'a>(
     second: &'a [u16],
     second_length: usize,
 ) -> Result<&'a [u16], Refusal>
-    ensures { elim result [ Ok route ↦ (first_length ≤ length first.now) × (second_length ≤ length second.now) × (route.now ≡ shorter first.now first_length second.now second_length) | Err e ↦ (e ≡ Refusal.List) × Beyond first.now first_length second.now second_length ] }
+    ensures { MatchResult result (λ route. (first_length ≤ length first.now) × (second_length ≤ length second.now) × (route.now ≡ shorter first.now first_length second.now second_length)) (λ e. (e ≡ Refusal.List) × Beyond first.now first_length second.now second_length) }
 {
-    if first_length > first.len() || second_length > second.len() {
-        return Err(Refusal::List);
-    }
-    if first_length <= second_length {
-        Ok(&first[0..first_length])
+    let first = first.get(..first_length).ok_or(Refusal::List)?;
+    let second = second.get(..second_length).ok_or(Refusal::List)?;
+    if first.len() <= second.len() {
+        Ok(first)
     } else {
-        Ok(&second[0..second_length])
+        Ok(second)
     }
 }
 
 // A way that visits a place twice is no route.
-pub fn round_is_no_route() -> u8
+pub fn round_is_no_route()
     ensures { RoundIsNoRoute }
-{
-    1
-}
+{}

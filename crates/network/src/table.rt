@@ -1,5 +1,5 @@
 // A register over a table of circuit records that stands in the caller's memory.
-ghost use Rattle.std.specs.Prelude.{◌≡◌, ◌≤◌, [], length, Some, None, Ok, Err};
+ghost use Rattle.std.specs.Prelude.{◌≡◌, ◌≤◌, [], length, MatchResult};
 ghost use Rattle.network.specs.Checks.{First};
 ghost use Rattle.network.specs.Network.{Proper, Sound};
 ghost use Rattle.network.specs.Refusals.{number_of};
@@ -19,8 +19,6 @@ pub struct TableRegister<'a> {
     ghost figures: { GoodFigures circuits.now },
 }
 
-static NO_CIRCUITS: [Circuit; 0] = [];
-
 impl<'a> TableRegister<'a> {
     // A table of no places and no circuits.
     pub fn empty() -> TableRegister<'a>
@@ -28,14 +26,14 @@ impl<'a> TableRegister<'a> {
     {
         TableRegister {
             places: 0,
-            circuits: &NO_CIRCUITS,
+            circuits: &[],
         }
     }
 
     // Accepted exactly where the table keeps the limits; it then stands in place of what the register held.
     // Refused, it leaves the register as it was.
     pub fn load(&mut self, places: u32, circuits: &'a [Circuit]) -> Result<(), LoadRefusal>
-        ensures { elim result [ Ok _ ↦ Proper (table places circuits.now) × (table self.new.places self.new.circuits.now ≡ table places circuits.now) | Err e ↦ Refused (table places circuits.now) (number_of e.refusal) e.at × (self.new ≡ self.old) ] }
+        ensures { MatchResult result (λ _. Proper (table places circuits.now) × (table self.new.places self.new.circuits.now ≡ table places circuits.now)) (λ e. Refused (table places circuits.now) (number_of e.refusal) e.at × (self.new ≡ self.old)) }
     {
         if places > MOST_PLACES as u32 || circuits.len() > MOST_CIRCUITS as usize {
             return Err(LoadRefusal {
@@ -45,36 +43,32 @@ impl<'a> TableRegister<'a> {
         }
         let places = places as u16;
         for (at, circuit) in circuits.iter().enumerate() {
-            if let Some(refusal) = fault(places, *circuit) {
-                return Err(LoadRefusal { refusal, at });
-            }
+            check(places, *circuit).map_err(|refusal| LoadRefusal { refusal, at })?;
         }
         *self = TableRegister { places, circuits };
         Ok(())
     }
 }
 
-// The first check that a record fails among that many places: its ends, then its figures.
-fn fault(places: u16, circuit: Circuit) -> Option<Refusal>
-    ensures { elim result [ None ↦ Sound places circuit | Some e ↦ First (number_of e) (circuit_checks places circuit) ] }
+// What is checked of a record among that many places: its ends, then its figures.
+fn check(places: u16, circuit: Circuit) -> Result<(), Refusal>
+    ensures { MatchResult result (λ _. Sound places circuit) (λ e. First (number_of e) (circuit_checks places circuit)) }
 {
     if circuit.bad_ends(places) {
-        return Some(Refusal::Ends);
+        return Err(Refusal::Ends);
     }
     if circuit.bad_figures() {
-        return Some(Refusal::Figure);
+        return Err(Refusal::Figure);
     }
-    None
+    Ok(())
 }
 
 // A table keeps the limits or is refused, and never both; a refusal has one number at one record.
-pub fn table_stands() -> u8
+pub fn table_stands()
     ensures total { ProperOrRefused }
     ensures apart { ProperNotRefused }
     ensures refusal { OneTableRefusal }
-{
-    1
-}
+{}
 
 impl Register for TableRegister<'_> {
     ghost network = { λ r. table r.places r.circuits.now };

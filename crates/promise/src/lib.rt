@@ -11,8 +11,7 @@ pub enum Mode {
 }
 
 // A pair of routes has a bandwidth, and where its circuits are open it can carry just the rates up to it.
-pub fn pair_bandwidth_stands() -> u8
+pub fn pair_bandwidth_stands()
     ensures { CarriesUpToBandwidth }
 {
-    1
 }

@@ -6,7 +6,7 @@ ghost use Rattle.network.specs.Refusals.{number_of};
 ghost use Rattle.network.specs.Table.{table, Refused};
 ghost use Rattle.registers_test.specs.Constant.{constant, constant_proper, all_bandwidth};
 
-use network::{Circuit, LoadRefusal, Register, TableRegister};
+use network::{Circuit, Circuits, LoadRefusal, Register, TableRegister};
 
 // Two places and one circuit, which never change.
 #[derive(Drop)]
@@ -44,10 +44,8 @@ pub fn total_bandwidth<R: Register>(register: &R) -> u64
     ensures { result ≡ all_bandwidth (R.network register.now) }
 {
     let mut total: u64 = 0;
-    for number in 0..register.circuits() {
-        if let Some(circuit) = register.circuit(u32::from(number)) {
-            total += u64::from(circuit.bandwidth);
-        }
+    for circuit in Circuits::of(register) {
+        total += u64::from(circuit.bandwidth);
     }
     total
 }

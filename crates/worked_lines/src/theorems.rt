@@ -2,38 +2,32 @@
 ghost use Rattle.worked_lines.specs.Worked.{WorkedLines, OnlyThese};
 ghost use Rattle.worked_lines.specs.Further.{FurtherLines, RouteLines, ScaleLines, RunLines};
 
-pub fn worked_lines_hold() -> u8
+pub fn worked_lines_hold()
     ensures { WorkedLines }
 {
-    0
 }
 
-pub fn only_these_hold() -> u8
+pub fn only_these_hold()
     ensures { OnlyThese }
 {
-    0
 }
 
-pub fn further_lines_hold() -> u8
+pub fn further_lines_hold()
     ensures { FurtherLines }
 {
-    0
 }
 
-pub fn route_lines_hold() -> u8
+pub fn route_lines_hold()
     ensures { RouteLines }
 {
-    0
 }
 
-pub fn scale_lines_hold() -> u8
+pub fn scale_lines_hold()
     ensures { ScaleLines }
 {
-    0
 }
 
-pub fn run_lines_hold() -> u8
+pub fn run_lines_hold()
     ensures { RunLines }
 {
-    0
 }
