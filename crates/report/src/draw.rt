@@ -1,7 +1,7 @@
 // The last pair by place names, and the register as a list and as a drawing.
 use calls::{Answer, Reply};
 use image::ImageRegister;
-use network::{Circuit, Register};
+use network::{Circuit, Circuits, Register};
 use std::io::Write;
 use std::{fmt, io, str};
 
@@ -144,9 +144,7 @@ impl<'a> Chart<'a> {
     }
 
     fn write_arrows<W: Write>(self, last: Option<Last<'_>>, out: &mut W) -> io::Result<()> {
-        for (number, circuit) in (0..self.register.circuits()).filter_map(|number| self.numbered(
-            number,
-        )) {
+        for (number, circuit) in (0..self.register.circuits()).zip(Circuits::of(self.register)) {
             let colour = last.map_or("gray", |last| last.colour(number));
             let Circuit {
                 from,
@@ -172,9 +170,7 @@ impl<'a> Chart<'a> {
     }
 
     fn write_circuits<W: Write>(self, out: &mut W) -> io::Result<()> {
-        for (number, circuit) in (0..self.register.circuits()).filter_map(|number| self.numbered(
-            number,
-        )) {
+        for (number, circuit) in (0..self.register.circuits()).zip(Circuits::of(self.register)) {
             let from = self.name(circuit.from);
             let to = self.name(circuit.to);
             let bandwidth = circuit.bandwidth;
