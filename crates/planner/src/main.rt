@@ -4,6 +4,7 @@
 mod sheet;
 mod worked;
 
+use anyhow::bail;
 use image::ImageRegister;
 use network::LoadRefusal;
 use report::Printed;
@@ -65,13 +66,13 @@ fn list(rt: &HostRuntime, register: ImageRegister<'_>) -> anyhow::Result<()> {
     Ok(())
 }
 
-// What the word asks of the image. A status of failure follows what is said here.
+// Lists the image, or plays orders on it by the scale of that name.
 fn by_name(rt: &HostRuntime, word: &str, image: &[u8]) -> anyhow::Result<ExitCode> {
     let register = match load(image) {
         Ok(register) => register,
         Err(refusal) => {
             println!(rt; "refused {refusal}")?;
-            return Ok(ExitCode::FAILURE);
+            bail!("the image is refused");
         }
     };
     match word {
