@@ -29,11 +29,9 @@ fn read_sheet<S: Limit + Scale>(
     text: &[u8],
     names: &[&[u8]],
 ) -> Result<Vec<Line<S::Value>>, AllocError> {
-    let mut sheet = Vec::new(heap);
-    for line in text.split(|byte| *byte == b'\n') {
-        sheet.push(read::<S>(line, names))?;
-    }
-    Ok(sheet)
+    text.split(|byte| *byte == b'\n')
+        .map(|line| read::<S>(line, names))
+        .collect(heap)
 }
 
 // The orders among the lines.

@@ -99,12 +99,7 @@ fn booking(rt: &HostRuntime) -> anyhow::Result<()> {
     tell_done(rt, "notice 1 closes circuit 3", book.close(1, 3))?;
     tell_done(rt, "notice 2 closes circuit 3", book.close(2, 3))?;
     tell_done(rt, "reopen 1", book.reopen(1))?;
-    let ask = Ask {
-        from: 0,
-        to: 3,
-        rate: 1,
-        mode: Mode::OneToOne,
-    };
+    let ask = Ask { rate: 1, ..ask };
     let answer = book.safest(ask, &mut first, &mut second);
     tell(rt, "safest from 0 to 3, 1 in 1:1", answer, &first, &second)?;
     Ok(())
