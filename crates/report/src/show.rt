@@ -9,14 +9,14 @@ pub trait Printed: Scale {
     fn write_cost<W: Write>(cost: Self::Value, out: &mut W) -> io::Result<()>;
 }
 
-// A scale whose values are plain numbers.
-pub trait Number: Scale<Value = u32> {}
+// A scale whose values are numbers of 32 bits.
+pub trait OneNumber: Scale<Value = u32> {}
 
-impl Number for Total {}
+impl OneNumber for Total {}
 
-impl Number for Worst {}
+impl OneNumber for Worst {}
 
-impl<S: Number> Printed for S {
+impl<S: OneNumber> Printed for S {
     fn write_cost<W: Write>(cost: u32, out: &mut W) -> io::Result<()> {
         write!(out, "{cost}")
     }
