@@ -11,7 +11,7 @@ use super::layout::{Layout, read_layout};
 use super::record::Records;
 use network::{Circuit, LoadRefusal, Register};
 
-#[derive(Drop)]
+#[derive(Clone, Copy)]
 pub struct ImageRegister<'a> {
     image: &'a [u8],
     layout: Layout,
