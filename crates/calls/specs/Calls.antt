@@ -1,5 +1,6 @@
 -- Orders and answers as the promise speaks of them. Assumes nothing.
-use Rattle.std.specs.Prelude.{ℕ, cond, List, [], ◌∷◌, vec_items}
+use Rattle.std.specs.Prelude.{ℕ, cond, List, [], ◌∷◌, Result, Ok, Err, vec_items}
+use Rattle.network.specs.declared.refusal.Refusal.{Refusal}
 use Rattle.network.specs.Refusals.{number_of}
 use Rattle.promise.specs.declared.Mode.{Mode}
 use Rattle.promise.specs.Promise as promise
@@ -7,8 +8,8 @@ use Rattle.promise.specs.Promise.{Call, act, tell, Entry}
 use Rattle.calls.specs.declared.order.Ask.{Ask}
 use Rattle.calls.specs.declared.order.Order.{Order}
 use Rattle.calls.specs.declared.order.Order.TheVariants as order
-use Rattle.calls.specs.declared.answer.Answer.{Answer}
-use Rattle.calls.specs.declared.answer.Answer.TheVariants as answer
+use Rattle.calls.specs.declared.answer.Reply.{Reply}
+use Rattle.calls.specs.declared.answer.Reply.TheVariants as reply
 
 -- the calls that plan, with the lengths of the two lists
 abbrev pub safest_call : {V : Type 0} → Ask → ℕ → ℕ → Call V
@@ -32,17 +33,21 @@ call_of (order.Left circuit) = tell (promise.left circuit)
 call_of (order.Open circuit) = tell (promise.opens circuit)
 call_of (order.Uses feed circuit) = tell (promise.uses feed circuit)
 
+-- an `Answer`, since antt has no name for an alias
+abbrev pub Outcome : Type 0 → Type 0
+Outcome V = Result (Reply V) Refusal
+
 -- the answer as the ledger is told it: a refusal by its number, open as 1 and closed as 0
-abbrev pub answer_of : {V : Type 0} → Answer V → promise.Answer V
-answer_of (answer.Refused refusal) = promise.refused (number_of refusal)
-answer_of (answer.Pair rate first second cost) = promise.pair rate (vec_items first) (vec_items second) cost
-answer_of answer.Done = promise.done
-answer_of (answer.Left left) = promise.told left
-answer_of (answer.Open whether) = promise.told (cond whether 1 0)
-answer_of (answer.Uses times) = promise.told times
+abbrev pub answer_of : {V : Type 0} → Outcome V → promise.Answer V
+answer_of (Err refusal) = promise.refused (number_of refusal)
+answer_of (Ok (reply.Pair rate first second cost)) = promise.pair rate (vec_items first) (vec_items second) cost
+answer_of (Ok reply.Done) = promise.done
+answer_of (Ok (reply.Left left)) = promise.told left
+answer_of (Ok (reply.Open whether)) = promise.told (cond whether 1 0)
+answer_of (Ok (reply.Uses times)) = promise.told times
 
 -- each order with its answer
-abbrev pub entries : {V : Type 0} → List (Order V) → List (Answer V) → List (Entry V)
+abbrev pub entries : {V : Type 0} → List (Order V) → List (Outcome V) → List (Entry V)
 entries [] answers = []
 entries (o ∷ orders) [] = []
 entries (o ∷ orders) (a ∷ answers) = record { call = call_of o; answer = answer_of a } ∷ entries orders answers

@@ -1,10 +1,9 @@
 // What a book answers.
 use network::Refusal;
 
-// What came of an order.
-#[derive(Drop)]
-pub enum Answer<V> {
-    Refused(Refusal),
+// What a call tells that is not refused.
+#[derive(Clone, PartialEq, Debug, Drop)]
+pub enum Reply<V> {
     Pair {
         rate: u32,
         first: Vec<u16>,
@@ -16,3 +15,6 @@ pub enum Answer<V> {
     Open(bool),
     Uses(u8),
 }
+
+// What came of an order.
+pub type Answer<V> = Result<Reply<V>, Refusal>;

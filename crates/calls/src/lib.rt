@@ -4,5 +4,5 @@
 mod answer;
 mod order;
 
-pub use answer::Answer;
+pub use answer::{Answer, Reply};
 pub use order::{Ask, Order};

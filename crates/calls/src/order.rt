@@ -2,7 +2,7 @@
 use promise::Mode;
 
 // Two places, a rate in kbit/s, and a mode.
-#[derive(Clone, Copy)]
+#[derive(Clone, Copy, PartialEq, Debug)]
 pub struct Ask {
     pub from: u32,
     pub to: u32,
@@ -11,7 +11,7 @@ pub struct Ask {
 }
 
 // One call on a book.
-#[derive(Clone, Copy)]
+#[derive(Clone, Copy, PartialEq, Debug)]
 pub enum Order<V> {
     Safest(Ask),
     Widest {

@@ -4,11 +4,13 @@
 mod sheet;
 mod worked;
 
-use anyhow::anyhow;
+use anyhow::bail;
 use image::ImageRegister;
+use network::LoadRefusal;
 use report::Printed;
 use scale::{Scale, Tally, Total, Worst};
 use std::io::{BufWriter, Read, Write};
+use std::process::ExitCode;
 use std::{env, fs};
 use words::Limit;
 
@@ -36,70 +38,72 @@ An answer is one line: pair rate=R cost=C first=CIRCUITS second=CIRCUITS, done,
 left=N, open=yes or no, uses=N, or refused NUMBER WORD; or error line N: what is
 wrong with the text of the order. list prints the places and circuits by name.";
 
-// Says why the image is refused, where it is.
-fn check(rt: &HostRuntime, image: &[u8]) -> anyhow::Result<()> {
+// The register that the image holds.
+fn load(image: &[u8]) -> Result<ImageRegister<'_>, LoadRefusal> {
     let mut register = ImageRegister::empty();
-    if let Err(refusal) = register.load(image) {
-        println!(rt; "refused {refusal}")?;
-        return Err(anyhow!("the image is refused"));
-    }
-    Ok(())
+    register.load(image)?;
+    Ok(register)
 }
 
 // Plays the orders of the standard input by one scale.
 fn serve<S: Printed + Limit + Scale + Drop>(
     rt: &HostRuntime,
     scale: S,
-    image: &[u8],
+    register: ImageRegister<'_>,
 ) -> anyhow::Result<()> {
     let mut input = Vec::new(rt.alloc());
     rt.stdin().read_to_end(&mut input)?;
     let mut out = BufWriter::new(rt.alloc(), rt.stdout())?;
-    sheet::play(rt.alloc(), scale, image, &input, &mut out)?;
+    sheet::play(rt.alloc(), scale, register, &input, &mut out)?;
     out.flush()?;
     Ok(())
 }
 
-// Lists the register.
-fn list(rt: &HostRuntime, image: &[u8]) -> anyhow::Result<()> {
+fn list(rt: &HostRuntime, register: ImageRegister<'_>) -> anyhow::Result<()> {
     let mut out = BufWriter::new(rt.alloc(), rt.stdout())?;
-    sheet::list(rt.alloc(), image, &mut out)?;
+    sheet::list(rt.alloc(), register, &mut out)?;
     out.flush()?;
     Ok(())
 }
 
-fn by_name(rt: &HostRuntime, word: &str, image: &[u8]) -> anyhow::Result<()> {
-    check(rt, image)?;
+// Lists the image, or plays orders on it by the scale of that name.
+fn by_name(rt: &HostRuntime, word: &str, image: &[u8]) -> anyhow::Result<ExitCode> {
+    let register = match load(image) {
+        Ok(register) => register,
+        Err(refusal) => {
+            println!(rt; "refused {refusal}")?;
+            bail!("the image is refused");
+        }
+    };
     match word {
-        "list" => list(rt, image),
-        "total" => serve(rt, Total, image),
-        "worst" => serve(rt, Worst, image),
-        "tally" => serve(rt, Tally, image),
+        "list" => list(rt, register)?,
+        "total" => serve(rt, Total, register)?,
+        "worst" => serve(rt, Worst, register)?,
+        "tally" => serve(rt, Tally, register)?,
         _ => {
             eprintln!(rt; "planner: {word} is no scale, expected total, worst, tally or list")?;
-            Err(anyhow!("no such scale"))
+            return Ok(ExitCode::FAILURE);
         }
     }
+    Ok(ExitCode::SUCCESS)
 }
 
-fn main(rt: HostRuntime) -> anyhow::Result<()> {
-    let mut args = env::args(&rt)?;
-    let _program = args.next();
-    let Some(word) = args.next() else {
-        return by_name(&rt, "total", worked::image());
-    };
-    if word.as_str() == "--help" {
+fn main(rt: HostRuntime) -> anyhow::Result<ExitCode> {
+    let mut args = env::args(&rt)?.skip(1);
+    let word = args.next();
+    let word = word.as_deref().unwrap_or("total");
+    if word == "--help" {
         println!(rt; "{HELP}")?;
-        return Ok(());
+        return Ok(ExitCode::SUCCESS);
     }
     let Some(path) = args.next() else {
-        return by_name(&rt, word.as_str(), worked::image());
+        return by_name(&rt, word, &worked::IMAGE);
     };
     match fs::read(&rt, path.as_str()) {
-        Ok(image) => by_name(&rt, word.as_str(), &image),
+        Ok(image) => by_name(&rt, word, &image),
         Err(error) => {
             eprintln!(rt; "planner: cannot read {path}: {error}")?;
-            Err(anyhow!("no image"))
+            Ok(ExitCode::FAILURE)
         }
     }
 }

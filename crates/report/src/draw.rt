@@ -1,186 +1,185 @@
-// The last pair by place names, and the register as a drawing.
-use calls::Answer;
+// The last pair by place names, and the register as a list and as a drawing.
+use calls::{Answer, Reply};
 use image::ImageRegister;
-use network::Register;
-use std::io;
+use network::{Circuit, Circuits, Register};
 use std::io::Write;
+use std::{fmt, io, str};
 
-// The routes of the last pair that was answered; both empty where there was none.
+// The routes of the last pair that was answered.
 #[derive(Clone, Copy)]
 pub struct Last<'a> {
     first: &'a [u16],
     second: &'a [u16],
 }
 
-// Whether the answer is a pair.
-pub fn is_pair<V>(answer: &Answer<V>) -> bool {
-    matches!(answer, Answer::Pair { .. })
-}
-
 impl<'a> Last<'a> {
-    // The pair that stands there among the answers.
-    pub fn at<V>(answers: &'a [Answer<V>], place: usize) -> Last<'a> {
-        match answers.get(place) {
-            Some(Answer::Pair { first, second, .. }) => Last { first, second },
-            _ => Last {
-                first: &[],
-                second: &[],
-            },
+    // The routes of the answer, where it is a pair.
+    pub fn of<V>(answer: &'a Answer<V>) -> Option<Last<'a>> {
+        match answer {
+            Ok(Reply::Pair { first, second, .. }) => Some(Last { first, second }),
+            _ => None,
         }
     }
 
-    fn shares(&self, circuit: u16) -> bool {
+    fn shares(self, circuit: u16) -> bool {
         self.first.contains(&circuit) && self.second.contains(&circuit)
     }
 
     // How a circuit is drawn.
-    fn colour(&self, circuit: u16) -> &'static str {
-        if self.shares(circuit) {
-            "red, penwidth=3"
-        } else if self.first.contains(&circuit) {
-            "blue, penwidth=2"
-        } else if self.second.contains(&circuit) {
-            "darkorange, penwidth=2"
-        } else {
-            "gray"
+    fn colour(self, circuit: u16) -> &'static str {
+        match (
+            self.first.contains(&circuit),
+            self.second.contains(&circuit),
+        ) {
+            (true, true) => "red, penwidth=3",
+            (true, false) => "blue, penwidth=2",
+            (false, true) => "darkorange, penwidth=2",
+            (false, false) => "gray",
         }
     }
 }
 
-// A name as text. Where it is no text, and for bytes that a drawing would take for its own, a question mark stands.
-fn write_name<W: Write>(names: &[&[u8]], place: u16, out: &mut W) -> io::Result<()> {
-    let Some(name) = names.get(place as usize) else {
-        return Ok(());
-    };
-    let text = std::str::from_utf8(name).is_ok();
-    for byte in name.iter() {
-        let plain = (32..127).contains(byte) || *byte > 127 && text;
-        let kept = plain && *byte != b'"' && *byte != b'\\';
-        out.write_all(&[if kept { *byte } else { b'?' }])?;
+// A place's name as text. Where it is no text, and for what a drawing would take for its own, a question mark stands.
+#[derive(Clone, Copy)]
+struct Name<'a>(&'a [u8]);
+
+// The character, where it may stand in a drawing.
+fn plain(c: char) -> char {
+    if c.is_ascii_control() || c == '"' || c == '\\' {
+        '?'
+    } else {
+        c
     }
-    Ok(())
 }
 
-// One route by place names; = stands for a shared circuit.
-fn write_route<W: Write>(
-    register: &ImageRegister<'_>,
-    names: &[&[u8]],
-    last: Last<'_>,
-    route: &[u16],
-    out: &mut W,
-) -> io::Result<()> {
-    let mut started = false;
-    for number in route {
-        let Some(circuit) = register.circuit(*number as u32) else {
-            continue;
-        };
-        if !started {
-            write_name(names, circuit.from, out)?;
-            started = true;
+// The byte of a name that is no text.
+fn plain_byte(byte: u8) -> char {
+    if byte.is_ascii() {
+        plain(char::from(byte))
+    } else {
+        '?'
+    }
+}
+
+impl fmt::Display for Name<'_> {
+    fn fmt<W: fmt::Write>(&self, f: &mut fmt::Formatter<W>) -> fmt::Result {
+        match str::from_utf8(self.0) {
+            Ok(text) => text.chars().try_for_each(|c| f.write_char(plain(c))),
+            Err(_) => self
+                .0
+                .iter()
+                .try_for_each(|byte| f.write_char(plain_byte(*byte))),
         }
-        write!(out, "{}", if last.shares(*number) { " = " } else { " > " })?;
-        write_name(names, circuit.to, out)?;
     }
-    writeln!(out, "")
 }
 
-// The last pair by place names, and each circuit that it shares.
-pub fn write_routes<W: Write>(
-    register: &ImageRegister<'_>,
-    names: &[&[u8]],
-    last: Last<'_>,
-    out: &mut W,
-) -> io::Result<()> {
-    if last.first.is_empty() {
-        return writeln!(out, "no pair yet");
+// A register, and the names of its places.
+#[derive(Clone, Copy)]
+pub struct Chart<'a> {
+    pub register: &'a ImageRegister<'a>,
+    pub names: &'a [&'a [u8]],
+}
+
+impl<'a> Chart<'a> {
+    // The name of a place; none is written for a place without one.
+    fn name(self, place: u16) -> Name<'a> {
+        Name(self.names.get(usize::from(place)).copied().unwrap_or(b""))
     }
-    write!(out, "first:  ")?;
-    write_route(register, names, last, last.first, out)?;
-    write!(out, "second: ")?;
-    write_route(register, names, last, last.second, out)?;
-    for number in last.first {
-        let Some(circuit) = register.circuit(*number as u32) else {
-            continue;
+
+    // The circuit of that number, beside its number.
+    fn numbered(self, number: u16) -> Option<(u16, Circuit)> {
+        Some((number, self.register.circuit(u32::from(number))?))
+    }
+
+    // One route by place names; = stands for a shared circuit.
+    fn write_route<W: Write>(self, last: Last<'_>, route: &[u16], out: &mut W) -> io::Result<()> {
+        let mut legs = route
+            .iter()
+            .filter_map(|number| self.numbered(*number))
+            .peekable();
+        if let Some((_, circuit)) = legs.peek() {
+            let from = self.name(circuit.from);
+            write!(out, "{from}")?;
+        }
+        for (number, circuit) in legs {
+            let sign = if last.shares(number) { '=' } else { '>' };
+            let to = self.name(circuit.to);
+            write!(out, " {sign} {to}")?;
+        }
+        writeln!(out)
+    }
+
+    // The last pair by place names, and each circuit that it shares.
+    pub fn write_routes<W: Write>(self, last: Option<Last<'_>>, out: &mut W) -> io::Result<()> {
+        let Some(last) = last else {
+            return writeln!(out, "no pair yet");
         };
-        if last.shares(*number) {
-            write!(out, "shared: circuit {number}, ")?;
-            write_name(names, circuit.from, out)?;
-            write!(out, " = ")?;
-            write_name(names, circuit.to, out)?;
+        write!(out, "first:  ")?;
+        self.write_route(last, last.first, out)?;
+        write!(out, "second: ")?;
+        self.write_route(last, last.second, out)?;
+        let legs = last
+            .first
+            .iter()
+            .filter_map(|number| self.numbered(*number));
+        for (number, circuit) in legs.filter(|(number, _)| last.shares(*number)) {
+            let from = self.name(circuit.from);
+            let to = self.name(circuit.to);
             let cost = circuit.cost;
-            writeln!(out, ", cost {cost}")?;
+            writeln!(out, "shared: circuit {number}, {from} = {to}, cost {cost}")?;
         }
+        Ok(())
     }
-    Ok(())
-}
 
-// The places, each with its name.
-fn write_places<W: Write>(places: u16, names: &[&[u8]], out: &mut W) -> io::Result<()> {
-    for place in 0..places {
-        write!(out, "  p{place} [label=\"")?;
-        write_name(names, place, out)?;
-        writeln!(out, "\"];")?;
+    // The register for Graphviz: the first route blue, the second orange, what they share red.
+    pub fn write_map<W: Write>(self, last: Option<Last<'_>>, out: &mut W) -> io::Result<()> {
+        writeln!(out, "digraph register {{")?;
+        writeln!(out, "  rankdir=LR;")?;
+        for (place, name) in self.names.iter().enumerate() {
+            let name = Name(name);
+            writeln!(out, "  p{place} [label=\"{name}\"];")?;
+        }
+        self.write_arrows(last, out)?;
+        writeln!(out, "}}")
     }
-    Ok(())
-}
 
-// The register for Graphviz: the first route blue, the second orange, what they share red.
-pub fn write_map<W: Write>(
-    register: &ImageRegister<'_>,
-    names: &[&[u8]],
-    last: Last<'_>,
-    out: &mut W,
-) -> io::Result<()> {
-    writeln!(out, "digraph register {{")?;
-    writeln!(out, "  rankdir=LR;")?;
-    write_places(register.places(), names, out)?;
-    for number in 0..register.circuits() {
-        let Some(circuit) = register.circuit(number as u32) else {
-            continue;
-        };
-        let from = circuit.from;
-        let to = circuit.to;
-        let bandwidth = circuit.bandwidth;
-        let cost = circuit.cost;
-        let colour = last.colour(number);
-        writeln!(
-            out,
-            "  p{from} -> p{to} [label=\"{number}: {bandwidth} / {cost}\", color={colour}];"
-        )?;
+    fn write_arrows<W: Write>(self, last: Option<Last<'_>>, out: &mut W) -> io::Result<()> {
+        for (number, circuit) in (0..self.register.circuits()).zip(Circuits::of(self.register)) {
+            let colour = last.map_or("gray", |last| last.colour(number));
+            let Circuit {
+                from,
+                to,
+                bandwidth,
+                cost,
+            } = circuit;
+            writeln!(
+                out,
+                "  p{from} -> p{to} [label=\"{number}: {bandwidth} / {cost}\", color={colour}];"
+            )?;
+        }
+        Ok(())
     }
-    writeln!(out, "}}")
-}
 
-// The register as a list: each place, then each circuit by place names.
-pub fn write_list<W: Write>(
-    register: &ImageRegister<'_>,
-    names: &[&[u8]],
-    out: &mut W,
-) -> io::Result<()> {
-    for place in 0..register.places() {
-        write!(out, "place {place}: ")?;
-        write_name(names, place, out)?;
-        writeln!(out, "")?;
+    // The register as a list: each place, then each circuit by place names.
+    pub fn write_list<W: Write>(self, out: &mut W) -> io::Result<()> {
+        for (place, name) in self.names.iter().enumerate() {
+            let name = Name(name);
+            writeln!(out, "place {place}: {name}")?;
+        }
+        self.write_circuits(out)
     }
-    write_circuits(register, names, out)
-}
 
-fn write_circuits<W: Write>(
-    register: &ImageRegister<'_>,
-    names: &[&[u8]],
-    out: &mut W,
-) -> io::Result<()> {
-    for number in 0..register.circuits() {
-        let Some(circuit) = register.circuit(number as u32) else {
-            continue;
-        };
-        let bandwidth = circuit.bandwidth;
-        let cost = circuit.cost;
-        write!(out, "circuit {number}: ")?;
-        write_name(names, circuit.from, out)?;
-        write!(out, " > ")?;
-        write_name(names, circuit.to, out)?;
-        writeln!(out, ", bandwidth {bandwidth}, cost {cost}")?;
+    fn write_circuits<W: Write>(self, out: &mut W) -> io::Result<()> {
+        for (number, circuit) in (0..self.register.circuits()).zip(Circuits::of(self.register)) {
+            let from = self.name(circuit.from);
+            let to = self.name(circuit.to);
+            let bandwidth = circuit.bandwidth;
+            let cost = circuit.cost;
+            writeln!(
+                out,
+                "circuit {number}: {from} > {to}, bandwidth {bandwidth}, cost {cost}"
+            )?;
+        }
+        Ok(())
     }
-    Ok(())
 }

@@ -4,5 +4,5 @@
 mod draw;
 mod show;
 
-pub use draw::{Last, is_pair, write_list, write_map, write_routes};
+pub use draw::{Chart, Last};
 pub use show::{Printed, write_answer};

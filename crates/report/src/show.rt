@@ -1,21 +1,22 @@
 // Answers as lines of text.
-use calls::Answer;
+use calls::{Answer, Reply};
 use scale::{Scale, Tally, Total, Worst};
-use std::io;
 use std::io::Write;
+use std::{fmt, io};
 
 // How a value of the scale is written.
 pub trait Printed: Scale {
     fn write_cost<W: Write>(cost: Self::Value, out: &mut W) -> io::Result<()>;
 }
 
-impl Printed for Total {
-    fn write_cost<W: Write>(cost: u32, out: &mut W) -> io::Result<()> {
-        write!(out, "{cost}")
-    }
-}
+// A scale whose values are numbers of 32 bits.
+pub trait OneNumber: Scale<Value = u32> {}
 
-impl Printed for Worst {
+impl OneNumber for Total {}
+
+impl OneNumber for Worst {}
+
+impl<S: OneNumber> Printed for S {
     fn write_cost<W: Write>(cost: u32, out: &mut W) -> io::Result<()> {
         write!(out, "{cost}")
     }
@@ -28,17 +29,21 @@ impl Printed for Tally {
     }
 }
 
-// Circuit numbers with commas between.
-fn write_route<W: Write>(route: &[u16], out: &mut W) -> io::Result<()> {
-    let mut first = true;
-    for circuit in route {
-        if !first {
-            write!(out, ",")?;
+// A route, as circuit numbers with commas between.
+#[derive(Clone, Copy)]
+struct Route<'a>(&'a [u16]);
+
+impl fmt::Display for Route<'_> {
+    fn fmt<W: fmt::Write>(&self, f: &mut fmt::Formatter<W>) -> fmt::Result {
+        let Some((first, rest)) = self.0.split_first() else {
+            return Ok(());
+        };
+        write!(f, "{first}")?;
+        for circuit in rest {
+            write!(f, ",{circuit}")?;
         }
-        first = false;
-        write!(out, "{circuit}")?;
+        Ok(())
     }
-    Ok(())
 }
 
 // One line for one answer.
@@ -47,25 +52,25 @@ pub fn write_answer<S: Printed, W: Write>(
     out: &mut W,
 ) -> io::Result<()> {
     match answer {
-        Answer::Refused(refusal) => writeln!(out, "refused {refusal}"),
-        Answer::Pair {
-            rate,
-            first,
-            second,
-            cost,
-        } => {
+        Ok(
+            Reply::Pair {
+                rate,
+                first,
+                second,
+                cost,
+            },
+        ) => {
+            let first = Route(first);
+            let second = Route(second);
             write!(out, "pair rate={rate} cost=")?;
             S::write_cost(*cost, out)?;
-            write!(out, " first=")?;
-            write_route(first, out)?;
-            write!(out, " second=")?;
-            write_route(second, out)?;
-            writeln!(out, "")
+            writeln!(out, " first={first} second={second}")
         }
-        Answer::Done => writeln!(out, "done"),
-        Answer::Left(left) => writeln!(out, "left={left}"),
-        Answer::Open(true) => writeln!(out, "open=yes"),
-        Answer::Open(false) => writeln!(out, "open=no"),
-        Answer::Uses(uses) => writeln!(out, "uses={uses}"),
+        Ok(Reply::Done) => writeln!(out, "done"),
+        Ok(Reply::Left(left)) => writeln!(out, "left={left}"),
+        Ok(Reply::Open(true)) => writeln!(out, "open=yes"),
+        Ok(Reply::Open(false)) => writeln!(out, "open=no"),
+        Ok(Reply::Uses(uses)) => writeln!(out, "uses={uses}"),
+        Err(refusal) => writeln!(out, "refused {refusal}"),
     }
 }

@@ -6,11 +6,10 @@ use Rattle.scale.specs.Measure.{Measure}
 use Rattle.promise.specs.Ledger.{Ledger, nothing_yet}
 use Rattle.promise.specs.Promise.{Entry, Right, after, Kept}
 use Rattle.calls.specs.declared.order.Order.{Order}
-use Rattle.calls.specs.declared.answer.Answer.{Answer}
 use Rattle.tables.specs.declared.rows.Tables.{Tables}
 use Rattle.tables.specs.Standing.{ledger_of}
 use Rattle.book.specs.Answered.{Answered}
-use Rattle.calls.specs.Calls.{call_of, answer_of, entries}
+use Rattle.calls.specs.Calls.{Outcome, call_of, answer_of, entries}
 
 -- the ledger that has been told all entries
 abbrev pub final : {V : Type 0} → Ledger → List (Entry V) → Ledger
@@ -26,14 +25,14 @@ module _ {V : Type 0} where
   kept_push s n l [] e kept right = (right, tt)
   kept_push s n l (x ∷ es) e kept right = (kept.0, kept_push s n (after l x.call x.answer) es e kept.1 right)
 
-  pub entries_push : (orders : List (Order V)) (answers : List (Answer V)) (o : Order V) (a : Answer V) → length orders ≡ length answers → entries (orders ++ o ∷ []) (answers ++ a ∷ []) ≡ entries orders answers ++ (record { call = call_of o; answer = answer_of a }) ∷ []
+  pub entries_push : (orders : List (Order V)) (answers : List (Outcome V)) (o : Order V) (a : Outcome V) → length orders ≡ length answers → entries (orders ++ o ∷ []) (answers ++ a ∷ []) ≡ entries orders answers ++ (record { call = call_of o; answer = answer_of a }) ∷ []
   entries_push [] [] o a h = refl
   entries_push [] (b ∷ answers) o a h = absurd (omega (arith, h))
   entries_push (p ∷ orders) [] o a h = absurd (omega (arith, h))
   entries_push (p ∷ orders) (b ∷ answers) o a h = ap (λ es. record { call = call_of p; answer = answer_of b } ∷ es) (entries_push orders answers o a (omega (arith, h)))
 
   -- the entries of the first orders, and one more
-  entries_more : (orders : List (Order V)) (answers answers' : List (Answer V)) (i : ℕ) (o : Order V) (a : Answer V) → i < length orders → length answers ≡ i → o ≡ get_or orders i o → answers' ≡ answers ++ a ∷ []
+  entries_more : (orders : List (Order V)) (answers answers' : List (Outcome V)) (i : ℕ) (o : Order V) (a : Outcome V) → i < length orders → length answers ≡ i → o ≡ get_or orders i o → answers' ≡ answers ++ a ∷ []
       → entries (take (i + 1) orders) answers' ≡ entries (take i orders) answers ++ (record { call = call_of o; answer = answer_of a }) ∷ []
   entries_more orders answers answers' i o a h long is pushed =
       let one : take (i + 1) orders ≡ take i orders ++ o ∷ [] = take_more orders i o h ∙ ap (λ x. take i orders ++ x ∷ []) (sym is) in
@@ -45,7 +44,7 @@ module _ {V : Type 0} where
     pub ledger : ledger_of t ≡ final nothing_yet es
     pub kept : Kept s n nothing_yet es
 
-  pub so_far_more : (s : Measure V) (n : Network) (t t' : Tables) (orders : List (Order V)) (answers answers' : List (Answer V)) (i : ℕ) (o : Order V) (a : Answer V) → i < length orders → length answers ≡ i → o ≡ get_or orders i o → answers' ≡ answers ++ a ∷ []
+  pub so_far_more : (s : Measure V) (n : Network) (t t' : Tables) (orders : List (Order V)) (answers answers' : List (Outcome V)) (i : ℕ) (o : Order V) (a : Outcome V) → i < length orders → length answers ≡ i → o ≡ get_or orders i o → answers' ≡ answers ++ a ∷ []
       → SoFar s n t (entries (take i orders) answers) → Answered s n t t' (call_of o) (answer_of a) → SoFar s n t' (entries (take (i + 1) orders) answers')
   so_far_more s n t t' orders answers answers' i o a h long is pushed far answered =
       let es = entries (take i orders) answers in

@@ -1,96 +1,56 @@
 // A list of orders, played on a new book.
 #![tactic(auto)]
 
-ghost use Rattle.std.specs.Prelude.{◌≡◌, ◌≤◌, length, IfOk, Ok, Err, vec_len};
+ghost use Rattle.std.specs.Prelude.{◌≡◌, ◌≤◌, length, IfOk, IfErr, Ok, Err, vec_len};
 ghost use Rattle.promise.specs.Promise.{Run};
-ghost use Rattle.book.specs.Answered.{Answered, planned as planned_answer, acted as acted_answer, told_number, told_whether};
+ghost use Rattle.book.specs.Answered.{Answered, planned};
 ghost use Rattle.calls.specs.Calls.{call_of, answer_of, entries};
 
 use book::{Book, Pair};
-use calls::{Answer, Order};
+use calls::{Answer, Order, Reply};
 use network::{Refusal, Register};
 use scale::Scale;
 use std::alloc::{AllocError, Global};
 use tables::MAX_ROUTE;
 
-// The answer of a call that plans, with the routes out of its two lists.
-fn planned<V: Copy>(
+// The pair that was planned, with its routes out of the two lists.
+fn owned<V: Copy>(
     heap: Global,
-    res: Result<Pair<V>, Refusal>,
+    pair: Pair<V>,
     first: &[u16],
     second: &[u16],
-) -> Result<Answer<V>, AllocError>
-    requires { elim res [ Ok p ↦ (p.lengths.0 ≤ length first.now) × (p.lengths.1 ≤ length second.now) | Err _ ↦ Unit {0} ] }
-    ensures { IfOk result (λ a. answer_of a ≡ planned_answer res first.now second.now) }
+) -> Result<Reply<V>, AllocError>
+    requires first { pair.lengths.0 ≤ length first.now }
+    requires second { pair.lengths.1 ≤ length second.now }
+    ensures { IfOk result (λ reply. answer_of (Ok reply) ≡ planned (Ok pair) first.now second.now) }
 {
-    match res {
-        Err(refusal) => Ok(Answer::Refused(refusal)),
-        Ok(pair) => {
-            let (n, m) = pair.lengths;
-            let first = Vec::from_slice(heap, &first[0..n])?;
-            let second = Vec::from_slice(heap, &second[0..m])?;
-            Ok(Answer::Pair {
-                rate: pair.rate,
-                first,
-                second,
-                cost: pair.cost,
-            })
-        }
-    }
+    let (n, m) = pair.lengths;
+    let first = first[..n].to_vec(heap)?;
+    let second = second[..m].to_vec(heap)?;
+    Ok(Reply::Pair {
+        rate: pair.rate,
+        first,
+        second,
+        cost: pair.cost,
+    })
 }
 
-// The answer of a call that acts.
-fn acted<V>(res: Result<(), Refusal>) -> Answer<V>
-    ensures { answer_of result ≡ acted_answer res }
-{
-    match res {
-        Ok(()) => Answer::Done,
-        Err(refusal) => Answer::Refused(refusal),
-    }
-}
-
-// The answers of the calls that tell.
-fn told_left<V>(res: Result<u32, Refusal>) -> Answer<V>
-    ensures { answer_of result ≡ told_number res }
-{
-    match res {
-        Ok(left) => Answer::Left(left),
-        Err(refusal) => Answer::Refused(refusal),
-    }
-}
-
-fn told_open<V>(res: Result<bool, Refusal>) -> Answer<V>
-    ensures { answer_of result ≡ told_whether res }
-{
-    match res {
-        Ok(open) => Answer::Open(open),
-        Err(refusal) => Answer::Refused(refusal),
-    }
-}
-
-fn told_uses<V>(res: Result<u8, Refusal>) -> Answer<V>
-    ensures { answer_of result ≡ told_number res }
-{
-    match res {
-        Ok(uses) => Answer::Uses(uses),
-        Err(refusal) => Answer::Refused(refusal),
-    }
-}
-
-// Plays one order.
+// Plays one order. A refusal comes first, since only the routes of a pair want memory.
 fn play<R: Register + Drop, S: Scale + Drop>(
     heap: Global,
     book: &mut Book<R, S>,
     order: Order<S::Value>,
-) -> Result<Answer<S::Value>, AllocError>
-    ensures { IfOk result (λ a. (book.new.register ≡ book.old.register) × Answered S.Scale.measure (R.Register.network book.old.register) book.old.tables book.new.tables (call_of order) (answer_of a)) }
+) -> Result<Result<Reply<S::Value>, AllocError>, Refusal>
+    ensures register { book.new.register ≡ book.old.register }
+    ensures told { IfOk result (λ told. IfOk told (λ reply. Answered S.Scale.measure (R.Register.network book.old.register) book.old.tables book.new.tables (call_of order) (answer_of (Ok reply)))) }
+    ensures refused { IfErr result (λ refusal. Answered S.Scale.measure (R.Register.network book.old.register) book.old.tables book.new.tables (call_of order) (answer_of (Err refusal))) }
 {
     let mut first = [0; MAX_ROUTE];
     let mut second = [0; MAX_ROUTE];
     match order {
         Order::Safest(ask) => {
-            let pair = book.safest(ask, &mut first, &mut second);
-            planned(heap, pair, &first, &second)
+            let pair = book.safest(ask, &mut first, &mut second)?;
+            Ok(owned(heap, pair, &first, &second))
         }
         Order::Widest {
             from,
@@ -98,19 +58,19 @@ fn play<R: Register + Drop, S: Scale + Drop>(
             mode,
             limit,
         } => {
-            let pair = book.widest(from, to, mode, limit, &mut first, &mut second);
-            planned(heap, pair, &first, &second)
+            let pair = book.widest(from, to, mode, limit, &mut first, &mut second)?;
+            Ok(owned(heap, pair, &first, &second))
         }
         Order::Book { feed, ask, limit } => {
-            let pair = book.book(feed, ask, limit, &mut first, &mut second);
-            planned(heap, pair, &first, &second)
+            let pair = book.book(feed, ask, limit, &mut first, &mut second)?;
+            Ok(owned(heap, pair, &first, &second))
         }
-        Order::Release { feed } => Ok(acted(book.release(feed))),
-        Order::Close { notice, circuit } => Ok(acted(book.close(notice, circuit))),
-        Order::Reopen { notice } => Ok(acted(book.reopen(notice))),
-        Order::Left { circuit } => Ok(told_left(book.left(circuit))),
-        Order::Open { circuit } => Ok(told_open(book.is_open(circuit))),
-        Order::Uses { feed, circuit } => Ok(told_uses(book.uses(feed, circuit))),
+        Order::Release { feed } => book.release(feed).and(Ok(Ok(Reply::Done))),
+        Order::Close { notice, circuit } => book.close(notice, circuit).and(Ok(Ok(Reply::Done))),
+        Order::Reopen { notice } => book.reopen(notice).and(Ok(Ok(Reply::Done))),
+        Order::Left { circuit } => Ok(Ok(Reply::Left(book.left(circuit)?))),
+        Order::Open { circuit } => Ok(Ok(Reply::Open(book.is_open(circuit)?))),
+        Order::Uses { feed, circuit } => Ok(Ok(Reply::Uses(book.uses(feed, circuit)?))),
     }
 }
 
@@ -127,7 +87,11 @@ pub fn run<R: Register + Drop, S: Scale + Drop>(
     let mut book = Book::new(heap, register, scale)?;
     let mut answers = Vec::with_capacity(heap, orders.len())?;
     for order in orders {
-        answers.push(play(heap, &mut book, *order)?)?;
+        let answer = match play(heap, &mut book, *order) {
+            Ok(reply) => Ok(reply?),
+            Err(refusal) => Err(refusal),
+        };
+        answers.push(answer)?;
     }
     Ok(answers)
 }

@@ -44,11 +44,9 @@ fn tell(
             let rate = pair.rate;
             let cost = pair.cost;
             let (n, m) = pair.lengths;
-            if n > first.len() || m > second.len() {
+            let (Some(first), Some(second)) = (first.get(..n), second.get(..m)) else {
                 return Ok(());
-            }
-            let first = &first[0..n];
-            let second = &second[0..m];
+            };
             println!(rt; "{asked}: rate {rate}, cost {cost}, routes {first:?} and {second:?}")
         }
         Err(refusal) => println!(rt; "{asked}: refused {refusal}"),
@@ -77,9 +75,9 @@ fn tell_left<R: Register + Drop>(rt: &HostRuntime, book: &Book<R, Total>) -> io:
 fn booking(rt: &HostRuntime) -> anyhow::Result<()> {
     let circuits = worked_circuits();
     let mut register = TableRegister::empty();
-    if register.load(4, &circuits).is_err() {
-        return Err(anyhow!("the worked network is refused"));
-    }
+    register
+        .load(4, &circuits)
+        .map_err(|_| anyhow!("the worked network is refused"))?;
     let mut book = Book::new(rt.alloc(), register, Total)?;
     let mut first = [0; 127];
     let mut second = [0; 127];
@@ -101,12 +99,7 @@ fn booking(rt: &HostRuntime) -> anyhow::Result<()> {
     tell_done(rt, "notice 1 closes circuit 3", book.close(1, 3))?;
     tell_done(rt, "notice 2 closes circuit 3", book.close(2, 3))?;
     tell_done(rt, "reopen 1", book.reopen(1))?;
-    let ask = Ask {
-        from: 0,
-        to: 3,
-        rate: 1,
-        mode: Mode::OneToOne,
-    };
+    let ask = Ask { rate: 1, ..ask };
     let answer = book.safest(ask, &mut first, &mut second);
     tell(rt, "safest from 0 to 3, 1 in 1:1", answer, &first, &second)?;
     Ok(())
@@ -116,9 +109,9 @@ fn booking(rt: &HostRuntime) -> anyhow::Result<()> {
 fn one_circuit(rt: &HostRuntime, asked: &str, bandwidth: u32) -> anyhow::Result<()> {
     let circuits = [circuit(0, 1, bandwidth, 5)];
     let mut register = TableRegister::empty();
-    if register.load(2, &circuits).is_err() {
-        return Err(anyhow!("the network of one circuit is refused"));
-    }
+    register
+        .load(2, &circuits)
+        .map_err(|_| anyhow!("the network of one circuit is refused"))?;
     let book = Book::new(rt.alloc(), register, Total)?;
     let mut first = [0; 127];
     let mut second = [0; 127];
