@@ -1,5 +1,5 @@
 -- From what a book answers to what the host's order comes to.
-use Rattle.std.proofs.Common.{◌≡◌, ℕ, ◌<◌, ◌≤◌, ◌⊎◌, List, [], ◌∷◌, length, sym, refl, subst, inl, inr, arith}
+use Rattle.std.proofs.Common.{◌≡◌, ℕ, ◌<◌, ◌≤◌, ◌⊎◌, List, [], ◌∷◌, length, sym, refl, ap, subst, inl, inr, arith}
 use Rattle.std.proofs.lemmas.Bool.{cases_lt}
 use Rattle.network.specs.declared.refusal.Refusal.{Refusal}
 use Rattle.network.specs.declared.refusal.Refusal.TheVariants as refusal
@@ -12,6 +12,10 @@ use Rattle.scale.specs.ThreeScales.{total}
 use Rattle.promise.specs.declared.Mode.{Mode}
 use Rattle.promise.specs.Ledger.{Ledger, nothing_yet}
 use Rattle.promise.specs.Promise.{safest, plan_checks, BadPlaces, BadRate, NoPair}
+use Rattle.std.specs.Prelude.{Ok, Err, Result}
+use Rattle.std.specs.Result.{IsErrAnd}
+use Rattle.host.specs.declared.failure.Failure.{Failure}
+use Rattle.host.specs.Status.{status, failure_number}
 use Rattle.host.specs.Entry.{Means, network_of, order_checks, Asked, Begun, of_image, of_order, Outcome, answered, refused}
 
 -- a later check that fails first, and a first check that says the same in other words
@@ -107,3 +111,8 @@ module _ (image before : List ℕ) (from to rate mode : ℕ) (m : Mode) (means :
         | inl a ↦ answered a.0 b a.1
         | inr a ↦ refused (order_number (network_of load.names load.circuits) from to rate m before result a.0) (of_order b a.0) a.1
       ]
+
+-- the number of a failure
+pub status_of : (r : Result (Unit {0}) Failure) (f : Failure) → IsErrAnd r (λ g. g ≡ f) → status r ≡ failure_number f
+status_of (Ok x) f h = absurd h
+status_of (Err g) f h = ap failure_number h

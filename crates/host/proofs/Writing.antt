@@ -1,7 +1,6 @@
 -- Bytes written one after the other.
 use Rattle.std.proofs.Common.{◌≡◌, ℕ, ◌+◌, ◌-◌, ◌*◌, ◌<◌, ◌≤◌, List, [], ◌∷◌, ◌++◌, length, get_or, take, drop, sym, refl, ap, ◌∙◌, append_assoc, add-zero, zero-add, arith, length-append}
 use native.Mathlib.Nat.{sub-zero}
-use borrow.Rule.Slice.PartMut.{put_mid}
 use Rattle.std.proofs.lemmas.List.{take_at, drop_at, length-take-le, take_more, take_all, drop-drop, take-append-drop}
 use Rattle.image_format.specs.Image.{be16}
 use Rattle.host.specs.Layout.{route_bytes, answer_bytes, with_bytes, led_by}
@@ -18,12 +17,6 @@ route_push (x ∷ route) c = ap (λ z. be16 x ++ z) (route_push route c)
 -- one more circuit
 pub route_more : (route : List ℕ) (i : ℕ) → i < length route → route_bytes (take (i + 1) route) ≡ route_bytes (take i route) ++ be16 (get_or route i 0)
 route_more route i h = ap route_bytes (take_more route i 0 h) ∙ route_push (take i route) (get_or route i 0)
-
--- a part of the buffer that holds other bytes now
-pub part_written : (at n : ℕ) (buffer now bytes : List ℕ) → now ≡ bytes → n ≡ length bytes → put_mid at n buffer now ≡ with_bytes buffer at bytes
-part_written at n buffer now bytes e h =
-    ap (λ z. take at buffer ++ (z ++ drop n (drop at buffer))) e
-    ∙ ap (λ z. take at buffer ++ (bytes ++ z)) (drop-drop n at buffer ∙ ap (λ z. drop (at + z) buffer) h)
 
 -- bytes that follow those just written
 then_bytes : (buffer : List ℕ) (at : ℕ) (xs ys : List ℕ) (next : ℕ) → at + length xs ≤ length buffer → next ≡ at + length xs

@@ -1,2 +1,3 @@
 pub mod Entry
 pub mod Layout
+pub mod Status

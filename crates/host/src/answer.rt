@@ -1,9 +1,9 @@
 // An order to a new book, answered into the output buffer.
 ghost use Rattle.std.specs.Prelude.{◌≡◌, ◌<◌, ◌≤◌, length};
-ghost use Rattle.network.specs.Refusals.{number_of};
 ghost use Rattle.promise.specs.Ledger.{nothing_yet};
 ghost use Rattle.tables.specs.Standing.{ledger_of};
 ghost use Rattle.host.specs.Entry.{Asked};
+ghost use Rattle.host.specs.Status.{order_status};
 
 use super::output::put_answer;
 use book::Book;
@@ -14,12 +14,6 @@ use tables::MAX_ROUTE;
 
 // The least output that is accepted: 8 bytes, and two for each circuit of two routes.
 const OUTPUT_SIZE: usize = 516;
-
-pub fn number_of(refusal: Refusal) -> u32
-    ensures { result ≡ number_of refusal }
-{
-    u32::from(refusal.number())
-}
 
 // How many circuits the lists get for a route. They get none where the output is short: the book then refuses them at
 // that point in its own order of checks, before it looks for routes.
@@ -38,27 +32,27 @@ fn answer_by<R: Register + Drop>(
     first: &mut [u16],
     second: &mut [u16],
     output: &mut [u8],
-) -> u32
+) -> Result<(), Refusal>
     requires unused { ledger_of book.now.tables ≡ nothing_yet }
     requires lists { length first.old ≡ length second.old }
     requires short { length output.old < 516 → length first.old < 127 }
     requires long { 516 ≤ length output.old → 127 ≤ length first.old }
-    ensures { Asked (R.Register.network book.now.register) ask.from ask.to ask.rate ask.mode output.old output.new result }
+    ensures { Asked (R.Register.network book.now.register) ask.from ask.to ask.rate ask.mode output.old output.new (order_status result) }
 {
-    match book.safest(ask, first, second) {
-        Err(refusal) => number_of(refusal),
-        Ok(pair) => {
-            let (n, m) = pair.lengths;
-            put_answer(output, &first[0..n], &second[0..m], pair.cost);
-            0
-        }
-    }
+    let pair = book.safest(ask, first, second)?;
+    let (n, m) = pair.lengths;
+    put_answer(output, &first[0..n], &second[0..m], pair.cost);
+    Ok(())
 }
 
 // Asks a new book for the safest pair, and writes it to the output.
-pub fn answer<R: Register + Drop>(book: &Book<R, Total>, ask: Ask, output: &mut [u8]) -> u32
+pub fn answer<R: Register + Drop>(
+    book: &Book<R, Total>,
+    ask: Ask,
+    output: &mut [u8],
+) -> Result<(), Refusal>
     requires unused { ledger_of book.now.tables ≡ nothing_yet }
-    ensures { Asked (R.Register.network book.now.register) ask.from ask.to ask.rate ask.mode output.old output.new result }
+    ensures { Asked (R.Register.network book.now.register) ask.from ask.to ask.rate ask.mode output.old output.new (order_status result) }
 {
     let room = room_for(output.len());
     let mut first = [0; MAX_ROUTE];

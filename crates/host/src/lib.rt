@@ -3,6 +3,7 @@
 
 mod answer;
 mod entry;
+mod failure;
 mod output;
 
 pub use entry::route_book_safest;

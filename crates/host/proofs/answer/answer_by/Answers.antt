@@ -6,12 +6,12 @@ use Rattle.host.proofs.Asking.{order_passed}
 use Rattle.host.proofs.Writing.{fronts_written}
 use Rattle.host.proofs.answer.answer_by.Goals as goal
 
-pub returns-in-Ok : goal.returns-in-Ok
-returns-in-Ok g c =
+pub returns : goal.returns
+returns g c =
     let n = g.R.Register.network c.args.book.now.register in
     let a = c.args.ask in
-    let pair = c.in-Ok.pair in
-    let right = c.in-Ok.ensures.right.right in
+    let pair = c.in_ok-pair.pair in
+    let right = c.in_ok-pair.ensures.right.right in
     inl (
       refl,
       record {
