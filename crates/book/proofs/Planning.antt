@@ -1,6 +1,6 @@
 -- From a plan to the answer of a call.
-use Rattle.std.proofs.Common.{◌≡◌, ℕ, ◌<◌, ◌≤◌, ◌⊎◌, List, [], ◌∷◌, ◌++◌, map, length, take, drop, vec_items, Ok, Err, Result, sym, ap, ◌∙◌, subst, inl, inr, arith, length-append, length-drop}
-use Rattle.std.proofs.lemmas.List.{take-append-le, take_all}
+use Rattle.std.proofs.Common.{◌≡◌, ℕ, ◌<◌, ◌≤◌, ◌⊎◌, List, [], ◌∷◌, ◌++◌, map, length, take, drop, vec_items, vec_len, Ok, Err, Result, sym, ap, ◌∙◌, subst, inl, inr, arith, length-append, length-drop}
+use Rattle.std.proofs.lemmas.List.{length-map, take-append-le, take_all}
 use Rattle.std.proofs.lemmas.List.Prefix.{front_rest}
 use Rattle.network.specs.Network.{Network}
 use Rattle.scale.specs.Measure.{Measure, Lawful}
@@ -12,7 +12,7 @@ use Rattle.promise.specs.declared.Mode.{Mode}
 use Rattle.promise.specs.Promise.{BadPlaces, BadRate, NoPair, NoneWithin, Stands, feed_number, checks, plan, book}
 use Rattle.promise.proofs.Plans.{not_no_pair, not_none_within}
 use Rattle.tables.specs.declared.rows.Tables.{Tables}
-use Rattle.tables.specs.Standing.{ledger_of, notice_of, route_of}
+use Rattle.tables.specs.Standing.{ledger_of, feed_of, notice_of, route_of}
 use Rattle.plan.specs.declared.plan.Plan.{Plan}
 use Rattle.plan.specs.Planned.{SafestWithin}
 use Rattle.book.specs.Answered.{Checked}
@@ -51,6 +51,10 @@ module _ {V : Type 0} (s : Measure V) (lawful : Lawful s) (n : Network) (l : Led
 
   pub booking_checked : (r : Result (Plan V) Refusal) → Passed before_search → SafestWithin s n l a b m rate limit r → Checked (checks s n l (plan (book k a b rate m limit) first second)) r
   booking_checked r pass h = checked_after (check 16 (NoPair s n l a b m rate) ∷ check 17 (NoneWithin s n l a b m rate limit) ∷ []) r (by_search r h) before_search pass
+
+-- as many feeds stand in the ledger as in the tables
+pub feeds_long : (t : Tables) → length (ledger_of t).feeds ≡ vec_len t.feeds
+feeds_long t = omega (arith, length-map (vec_items t.feeds) feed_of, t.feeds.ok.0)
 
 -- the ledger after a booking
 pub booked : (t t' : Tables) (f : Feed) → (ledger_of t').feeds ≡ (ledger_of t).feeds ++ f ∷ [] → t'.notices ≡ t.notices → ledger_of t' ≡ record { feeds = (ledger_of t).feeds ++ f ∷ []; notices = (ledger_of t).notices }

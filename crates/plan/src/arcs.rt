@@ -8,7 +8,7 @@ ghost use Rattle.tables.specs.Standing.{Keeps, ledger_of};
 ghost use Rattle.plan.specs.Arcs.{ArcFor};
 
 use crate::question::Question;
-use network::{Circuit, Register};
+use network::{Circuit, Circuits, Register};
 use promise::Mode;
 use search::{Arc, MAX_ARCS};
 
@@ -26,26 +26,15 @@ pub fn lanes_of(mode: Mode, rate: u32, left: u32, closed: bool) -> u8
     }
 }
 
-// The figures of a circuit that the register has.
-pub fn circuit_at<R: Register>(register: &R, number: u16) -> Circuit
-    requires { number < length (R.network register.now).circuits }
-    ensures { result ≡ circuit_of (R.network register.now) number }
-{
-    let Some(circuit) = register.circuit(number as u32) else {
-        unreachable()
-    };
-    circuit
-}
-
 impl<'a, R: Register> Question<'a, R> {
     // The arc of a circuit.
-    fn arc_at(&self, number: u16, closed: bool, rate: u32) -> Arc
+    fn arc_of(&self, number: usize, circuit: Circuit, closed: bool, rate: u32) -> Arc
         requires within { number < length (R.network self.now.register.now).circuits }
+        requires circuit { circuit ≡ circuit_of (R.network self.now.register.now) number }
         requires free { closed ≡ false → Open (ledger_of self.now.tables.now) number }
         requires shut { closed ≡ true → ¬ Open (ledger_of self.now.tables.now) number }
         ensures { ArcFor (R.network self.now.register.now) self.now.tables.now self.now.mode rate number result }
     {
-        let circuit = circuit_at(self.register, number);
         let left = self.tables.left(number as u32).unwrap_or(0);
         Arc {
             from: circuit.from,
@@ -65,8 +54,8 @@ impl<'a, R: Register> Question<'a, R> {
             to: 0,
             lanes: 0,
         }; MAX_ARCS];
-        for c in 0..self.register.circuits() {
-            arcs[c as usize] = self.arc_at(c, closed[c as usize], rate);
+        for (c, circuit) in Circuits::of(self.register).enumerate() {
+            arcs[c] = self.arc_of(c, circuit, closed[c], rate);
         }
         arcs
     }

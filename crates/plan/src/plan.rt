@@ -5,9 +5,8 @@ ghost use Rattle.tables.specs.Standing.{Keeps, route_of, ledger_of};
 ghost use Rattle.plan.specs.Arcs.{FoundAt};
 ghost use Rattle.plan.specs.Planned.{SafestAt};
 
-use crate::arcs::circuit_at;
 use crate::question::Question;
-use network::Register;
+use network::{Circuits, Register};
 use scale::Scale;
 use tables::{MAX_ROUTE, Route, marks};
 
@@ -54,10 +53,10 @@ impl<'a, R: Register> Question<'a, R> {
         let in_first = marks(first);
         let in_second = marks(second);
         let mut cost = S::zero();
-        for c in 0..self.register.circuits() {
-            let shared = in_first[c as usize] & in_second[c as usize];
+        for (c, circuit) in Circuits::of(self.register).enumerate() {
+            let shared = in_first[c] & in_second[c];
             if shared {
-                cost = S::join(cost, S::weight(circuit_at(self.register, c).cost));
+                cost = S::join(cost, S::weight(circuit.cost));
             }
         }
         cost

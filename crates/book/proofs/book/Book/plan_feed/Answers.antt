@@ -2,8 +2,7 @@ use Rattle.std.proofs.Common.{◌≤◌, length, arith}
 use Rattle.std.proofs.lemmas.Grind.{common_steps}
 use Rattle.promise.specs.Promise.{Stands, feed_number}
 use Rattle.tables.specs.Standing.{ledger_of}
-use Rattle.tables.proofs.Entries.{feeds_length}
-use Rattle.book.proofs.Planning.{booking_checked}
+use Rattle.book.proofs.Planning.{feeds_long, booking_checked}
 use Rattle.book.proofs.book.Book.plan_feed.Goals as goal
 
 pub returns-clause-checked : goal.returns-clause-checked
@@ -11,7 +10,7 @@ returns-clause-checked g c =
     let t = c.args.self.now.tables in
     let l = ledger_of t in
     let new : Stands feed_number c.args.feed l.feeds → ⊥ = grind (arith, common_steps) in
-    let room : 32 ≤ length l.feeds → ⊥ = λ full. c.in_ok-check_room.ensures.0 (omega (arith, feeds_length t)) in
+    let room : 32 ≤ length l.feeds → ⊥ = λ full. c.in_ok-check_room.ensures.0 (omega (arith, feeds_long t)) in
     let q = c.in_ok-question.ensures.question in
     booking_checked _ g.met.S.Scale.lawful _ _ _ _ _ _ _ _ _ _ _
     (c.in_ok-fresh.ensures.0, (new, (room, (c.in_ok-question.ensures.places.0, (c.in_ok-check_rate.ensures.0, c.in_ok-check_lists.ensures)))))

@@ -1,40 +1,28 @@
-use Rattle.std.proofs.Common.{◌+◌, ◌<◌, true, false, [], ◌∷◌, length, sym, ap, ◌∙◌, subst, arith}
-use Rattle.scale.proofs.Costs.{SoFar, cost_none, cost_all}
+use Rattle.std.proofs.Common.{true, false, [], ◌∷◌, arith}
+use Rattle.scale.proofs.Costs.{cost_none}
 use Rattle.tables.specs.Standing.{route_of}
-use Rattle.plan.proofs.Sharing.{cost_marked}
+use Rattle.plan.proofs.Circuits.{comes_within}
+use Rattle.plan.proofs.Sharing.{cost_next}
 use Rattle.plan.proofs.question.Question.shared_cost.Goals as goal
-use Rattle.plan.proofs.question.Question.shared_cost.Goals.{then-shared, else-shared}
 
 pub loop-c-init : goal.loop-c-init
 loop-c-init g c =
+    rw (c.into_iter-c-iterator.ensures.into_iter_gives, c.enumerate-c-items.ensures.source, c.enumerate-c-items.ensures.count, c.zero-cost.ensures)
+    (c.of.ensures.all, cost_none _ g.met.S.Scale.lawful _ (g.R.Register.proper c.args.self.now.register.now) (route_of c.args.first.now ∷ route_of c.args.second.now ∷ []))
+
+pub bounds-in_first-c : goal.bounds-in_first-c
+bounds-in_first-c g c =
     let x = c.args.self.now.register.now in
-    let rs = route_of c.args.first.now ∷ route_of c.args.second.now ∷ [] in
-    subst (SoFar g.S.Scale.measure g.met.S.Scale.lawful (g.R.Register.network x) rs 0) (sym c.zero-cost.ensures) (cost_none _ g.met.S.Scale.lawful _ (g.R.Register.proper x) rs)
+    let steps = c.in-Some.ensures.steps in
+    omega (arith, comes_within (g.R.Register.network x) _ _ _ _ _ c.loop-c.invariant.0 steps.0 steps.1, (g.R.Register.proper x).few_circuits)
+
+pub loop-c-preserved-then-shared : goal.loop-c-preserved-then-shared
+loop-c-preserved-then-shared g c =
+    let steps = c.in-Some.ensures.steps in
+    rw (c.join-cost.ensures, c.weight.ensures)
+    (cost_next _ g.met.S.Scale.lawful _ (g.R.Register.proper c.args.self.now.register.now) _ _ _ _ c.marks-in_first.ensures c.marks-in_second.ensures _ _ _ _ _ c.in-Some.circuit c.loop-c.cost true c.loop-c.invariant.0 steps.0 steps.1 steps.2 c.if-shared.true c.loop-c.invariant.1)
 
 pub loop-c-preserved : goal.loop-c-preserved
 loop-c-preserved g c =
-    let x = c.args.self.now.register.now in
-    let n = g.R.Register.network x in
-    let proper = g.R.Register.proper x in
-    let first = route_of c.args.first.now in
-    let second = route_of c.args.second.now in
-    let i = c.loop-c.c in
-    let s = g.S.Scale.measure in
-    let lawful = g.met.S.Scale.lawful in
-    let on : i < length n.circuits = omega arith in
-    let low : i < 384 = omega (arith, proper.few_circuits) in
-    let by_first = c.marks-in_first.ensures i low in
-    let by_second = c.marks-in_second.ensures i low in
-    let Next = SoFar s lawful n (first ∷ second ∷ []) (i + 1) in
-    elim c.if-shared.branch [
-      | then-shared w ↦
-          let is = w.cost-is ∙ w.join-cost.ensures ∙ ap (s.join c.loop-c.cost) (w.weight.ensures ∙ ap (λ y. s.weight y.cost) w.circuit_at.ensures) in
-          subst Next (sym is) (cost_marked s lawful n proper first second i c.loop-c.cost on _ _ true by_first by_second w.if-shared.true c.loop-c.invariant)
-      | else-shared w ↦ subst Next (sym w.cost-is) (cost_marked s lawful n proper first second i c.loop-c.cost on _ _ false by_first by_second w.if-shared.false c.loop-c.invariant)
-    ]
-
-pub returns : goal.returns
-returns g c =
-    let n = g.R.Register.network c.args.self.now.register.now in
-    let rs = route_of c.args.first.now ∷ route_of c.args.second.now ∷ [] in
-    cost_all g.S.Scale.measure g.met.S.Scale.lawful n rs c.loop-c.c c.loop-c.cost (omega arith) c.loop-c.invariant
+    let steps = c.in-Some.ensures.steps in
+    cost_next _ g.met.S.Scale.lawful _ (g.R.Register.proper c.args.self.now.register.now) _ _ _ _ c.marks-in_first.ensures c.marks-in_second.ensures _ _ _ _ _ c.in-Some.circuit c.loop-c.cost false c.loop-c.invariant.0 steps.0 steps.1 steps.2 c.if-shared.false c.loop-c.invariant.1
