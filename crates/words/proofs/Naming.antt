@@ -1,15 +1,16 @@
 -- The first place of a name.
-use Rattle.std.proofs.Common.{◌≡◌, ℕ, ◌^◌, ◌<◌, ◌⊎◌, List, [], ◌∷◌, length, get_or, Some, Ok, Err, Result, position, ap, subst, inl, inr, sym, ◌∙◌, arith, Bor}
+use Rattle.std.proofs.Common.{◌≡◌, ℕ, ◌^◌, ◌<◌, List, [], ◌∷◌, length, get_or, Some, Ok, Err, Result, position, ap, subst, inl, inr, sym, ◌∙◌, arith, Bor}
 use Rattle.std.specs.Str.{bytes_eq}
 use Rattle.std.specs.List.{position_or_len}
 use Rattle.std.specs.Result.{OkIff, result_ok}
 use Rattle.std.proofs.lemmas.List.{get_or-map, length-map}
 use Rattle.std.proofs.lemmas.List.Quantifiers.{position-Some}
 use Rattle.std.proofs.lemmas.List.Sums.{position_or_len_is}
-use Rattle.std.proofs.lemmas.Bool.{cases_order, false≢true, false_from_ne_true, cond-true, lt-ltb}
+use Rattle.std.proofs.lemmas.Bool.{false≢true, false_from_ne_true, cond-true, lt-ltb}
 use Rattle.std.proofs.lemmas.Slice.Eq.{bytes_eq-Decides}
 use Rattle.words.specs.Figures.{Found, Named, Place, Single, texts}
 use Rattle.words.specs.Decimals.{numeral_single}
+use Rattle.words.specs.Tallies.{first_once}
 
 pub text_at : (xs : List (Bor (List ℕ))) (i : ℕ) (d : Bor (List ℕ)) → i < length xs → get_or (texts xs) i [] ≡ (get_or xs i d).now
 text_at xs i d h = get_or-map (λ x. x.now) xs i d [] h
@@ -46,12 +47,7 @@ named_number xs word i (Ok n) e h = subst (Named (texts xs) word) (sym h.1) (nam
 named_number xs word i (Err d) e large = λ n h. let same : n ≡ i = cc (named_found xs word n h) in large (omega (arith, h.3))
 
 pub named_single : (names : List (List ℕ)) → Single (Named names)
-named_single names word x y p q = by_order (cases_order x y)
-  where
-    by_order : (x ≡ y) ⊎ ((x < y) ⊎ (y < x)) → x ≡ y
-    by_order (inl e) = e
-    by_order (inr (inl l)) = absurd (q.2 x l p.1)
-    by_order (inr (inr l)) = absurd (p.2 y l q.1)
+named_single names word x y p q = first_once (λ k. get_or names k [] ≡ word) x y p.1 q.1 p.2 q.2
 
 pub place_single : (names : List (List ℕ)) → Single (Place names)
 place_single names word x y (inl p) (inl q) = numeral_single 32 word x y p.1 q.1

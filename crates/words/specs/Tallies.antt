@@ -1,5 +1,5 @@
 -- A limit by tally is cut at its first colon.
-use Rattle.std.specs.Prelude.{◌≡◌, ℕ, ◌+◌, ◌<◌, ◌⊎◌, List, ◌∷◌, ◌++◌, length, take, drop, slice_index_or, refl}
+use Rattle.std.specs.Prelude.{◌≡◌, ℕ, ◌+◌, ◌<◌, List, ◌∷◌, ◌++◌, length, take, drop, slice_index, slice_index_or, refl}
 use Rattle.std.proofs.Common.{sym, ap, subst, ◌∙◌, inl, inr, arith, length-append}
 use Rattle.std.specs.List.{AllByRecursion}
 use Rattle.std.proofs.ByRecursion.{All-get_or}
@@ -13,13 +13,13 @@ pub colon_after : (count total : List ℕ) → AllByRecursion Digit count → Fi
 colon_after count total digits =
     (omega (arith, length-append count (58 ∷ total)), get_or_at count 58 total 0 (length count) refl, λ k h e. let d = All-get_or Digit count k 0 h digits in let f : slice_index_or count k 0 ≡ 58 = sym (get_or_append_left count (58 ∷ total) 0 k h) ∙ e in omega (arith, d))
 
+-- the first place of a kind is one
+pub first_once : (P : ℕ → Type 0) (i j : ℕ) → P i → P j → ((k : ℕ) → k < i → P k → ⊥) → ((k : ℕ) → k < j → P k → ⊥) → i ≡ j
+first_once P i j here there before_i before_j =
+    elim (cases_order i j) [ inl e ↦ e | inr (inl l) ↦ absurd (before_j i l here) | inr (inr l) ↦ absurd (before_i j l there) ]
+
 pub colon_once : (word : List ℕ) (i j : ℕ) → FirstColon word i → FirstColon word j → i ≡ j
-colon_once word i j p q = by_order (cases_order i j)
-  where
-    by_order : (i ≡ j) ⊎ ((i < j) ⊎ (j < i)) → i ≡ j
-    by_order (inl e) = e
-    by_order (inr (inl l)) = absurd (q.2 i l p.1)
-    by_order (inr (inr l)) = absurd (p.2 j l q.1)
+colon_once word i j p q = first_once (λ k. slice_index word k ≡ 58) i j p.1 q.1 p.2 q.2
 
 pub tally_colon : (word : List ℕ) (v : ℕ × ℕ) → (t : TallyLimit word v) → FirstColon word (length t.0)
 tally_colon word v t = subst (λ w. FirstColon w (length t.0)) (sym t.2) (colon_after t.0 t.1 t.3.1)

@@ -39,7 +39,7 @@ pub trait Limit: Scale {
     ghost single: { Single spells };
 }
 
-// A scale whose values are numbers of 32 bits.
+// A scale whose values are numbers of 32 bits, and whose limits are written as one.
 pub trait OneNumber: Scale<Value = u32> {}
 
 impl OneNumber for Total {}
