@@ -12,7 +12,7 @@ pub(crate) fn bytes_at<const N: usize>(image: &[u8], at: usize) -> [u8; N]
     requires { at + N ≤ length image.now }
     ensures { result ≡ take N (drop at image.now) }
 {
-    *image[at..].first_chunk().unwrap()
+    *image[at..at + N].first_chunk().unwrap()
 }
 
 // The circuit whose record begins at `at`.
