@@ -11,7 +11,8 @@ use crate::{Ends, MAX_ARCS, MAX_PLACES};
 const BOTH: u8 = 2;
 
 // The places seen so far stand in `order`, the first `count` entries. The rank of a place is where it stands there, from 1
-// on; the rank 0 says that it was not seen. `via` has the arc by which it was seen.
+// on; the rank 0 says that it was not seen. `via` has the arc by which it was seen. Arrays and a count, since no call may
+// want memory.
 #[derive(Drop)]
 pub(crate) struct Seen {
     pub(crate) count: usize,
@@ -77,7 +78,8 @@ impl Seen {
         }
     }
 
-    // Sees the places from which arcs bring something to a seen place.
+    // Sees the places from which arcs bring something to a seen place. One method for this and `go_forth` would take the arcs,
+    // the test and the end from outside, and so all that they consist of.
     fn go_back(&mut self, graph: &Graph<'_>, flow: &[u8; MAX_ARCS], place: usize)
         requires { IsSeen self.old place }
         ensures more { More graph.now.arcs.now flow.now Never self.old self.new }
@@ -135,7 +137,8 @@ impl<'a> Graph<'a> {
         ensures { MatchOption result (Refused self.now.arcs.now ends.from ends.to) (λ s. Reached self.now.arcs.now flow.now (Free self.now.arcs.now flow.now ends.from ends.to) ends.from ends.to s.rank s.via) }
     {
         let mut seen = Seen::new(ends.from);
-        // Of the places in `order`, how many were scanned, and how many have no gate any more.
+        // Of the places in `order`, how many were scanned, and how many have no gate any more. The order grows while it is
+        // read, and is read at both, so no iterator goes over it.
         let mut done = 0;
         let mut held = 0;
         while !seen.has(ends.to) {
@@ -162,6 +165,7 @@ impl<'a> Graph<'a> {
         ensures { Reached self.now.arcs.now flow.now Never ends.to ends.from result.rank result.via }
     {
         let mut seen = Seen::new(ends.to);
+        // The order grows while it is read, so no iterator goes over it.
         let mut done = 0;
         while !seen.has(ends.from) {
             let place = seen.order[done] as usize;
