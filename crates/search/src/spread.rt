@@ -78,8 +78,8 @@ impl Seen {
         }
     }
 
-    // Sees the places from which arcs bring something to a seen place. One method for this and `go_forth` would take the arcs,
-    // the test and the end from outside, and so all that they consist of.
+    // Sees the places from which arcs bring something to a seen place. One method for this and `go_forth` would be handed the
+    // arcs, the test and the end, which is all that they are.
     fn go_back(&mut self, graph: &Graph<'_>, flow: &[u8; MAX_ARCS], place: usize)
         requires { IsSeen self.old place }
         ensures more { More graph.now.arcs.now flow.now Never self.old self.new }
@@ -118,7 +118,7 @@ impl Seen {
     fn gate(&self, graph: &Graph<'_>, held: usize) -> Option<(usize, usize)>
         requires held { held ≤ self.now.count }
         requires passed { OfFirst held self.now (Passed graph.now.arcs.now self.now) }
-        ensures { MatchOption result ((c : ℕ) → Leaves graph.now.arcs.now self.now c → ⊥) (λ x. (x.0 < self.now.count) × (OfFirst x.0 self.now (Passed graph.now.arcs.now self.now)) × (Leaves graph.now.arcs.now self.now x.1)) }
+        ensures { MatchOption result ((c : ℕ) → ¬ (Leaves graph.now.arcs.now self.now c)) (λ x. (x.0 < self.now.count) × (OfFirst x.0 self.now (Passed graph.now.arcs.now self.now)) × (Leaves graph.now.arcs.now self.now x.1)) }
     {
         for (i, place) in self.order[held..self.count].iter().enumerate() {
             if let Some(c) = self.leaving_arc(graph, *place as usize) {
@@ -130,8 +130,9 @@ impl Seen {
 }
 
 impl<'a> Graph<'a> {
-    // Looks for a way from `from` to `to` by which one unit more can go: first all that arcs without flow lead to, or arcs with
-    // flow lead back to; where that is all, on through the gate, an arc that every route needs. None: there are no two routes.
+    // Looks for a way from `from` to `to` by which one unit more can go: first all that arcs without flow lead to, or arcs
+    // with flow lead back to; where that is all, on through the gate, an arc that every route needs. None: there are no two
+    // routes.
     pub(crate) fn explore(&self, flow: &[u8; MAX_ARCS], ends: Ends) -> Option<Seen>
         requires sound { (k : ℕ) × (k ≤ 1) × Sound self.now.arcs.now flow.now k ends.from ends.to }
         ensures { MatchOption result (Refused self.now.arcs.now ends.from ends.to) (λ s. Reached self.now.arcs.now flow.now (Free self.now.arcs.now flow.now ends.from ends.to) ends.from ends.to s.rank s.via) }
