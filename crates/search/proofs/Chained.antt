@@ -142,9 +142,6 @@ module _ (g : List Arc) (by : By) (p : ℕ) where
   pub arcs_from : (lo c : ℕ) → Following g (end_by by) p lo c → arcs_at g by p lo ≡ arcs_at g by p c
   arcs_from lo c f = arcs_skip (c - lo) lo c (omega (arith, f.after)) f.gap
 
-  pub arcs_past : (c : ℕ) → length g ≤ c → arcs_at g by p c ≡ []
-  arcs_past = past
-
   -- one arc along a chain
   pub arcs_turn : (first next : List ℕ) → Linked g (end_by by) 0 first next → (c : ℕ) → c < length g → fits c ≡ p → (x : Arc) → x ≡ arc g c → arcs_at g by p c ≡ (c, x) ∷ arcs_at g by p (get_or next c 0)
   arcs_turn first next linked c l e x same =

@@ -3,7 +3,7 @@ use Rattle.std.proofs.Common.{◌≡◌, ℕ, ◌+◌, ◌<◌, ◌≤◌, List,
 use Rattle.std.proofs.lemmas.Bool.{cases_lt}
 use Rattle.search.specs.declared.Arc.{Arc}
 use Rattle.search.specs.declared.spread.Seen.{Seen}
-use Rattle.search.specs.Graph.{arc, Must, Refused}
+use Rattle.search.specs.Graph.{arc, Must, Refused, Proper}
 use Rattle.search.specs.Flows.{Carries, Sound}
 use Rattle.search.specs.Trees.{Never, Free, Tree}
 use Rattle.search.specs.Rolls.{IsSeen, Noted, More, Unused, SpentForth, SpentBack, Passed, Leaves, OfFirst}
@@ -46,13 +46,17 @@ module _ (g : List Arc) (f : List ℕ) where
       done_low = omega (arith, old.done_low, more.rises);
     }
 
-  -- while the flow's source is not seen, there is a place to go on from
-  pub to_do : (k a b done : ℕ) (s : Seen) → length g ≤ length f → Carries g f (k + 1) a b → Begun g f Never b s done → get_or s.rank a 0 ≡ 0 → done < s.count
-  to_do k a b done s long carried old new =
-      ⊎_elim
-      (λ l. l)
-      (λ (all : s.count ≤ done). absurd (brought g s f (k + 1) a b carried long (first_all _ s done all old.back) (omega arith) new old.tree.root_seen))
-      (cases_lt done s.count)
+  module _ (proper : Proper g 128) (wide : length f ≡ 384) where
+    long : length g ≤ length f
+    long = omega (arith, proper.few_arcs, wide)
+
+    -- while the flow's source is not seen, there is a place to go on from
+    pub to_do : (a b done : ℕ) (s : Seen) → ((k : ℕ) × Carries g f (k + 1) a b) → Begun g f Never b s done → get_or s.rank a 0 ≡ 0 → done < s.count
+    to_do a b done s carried old new =
+        ⊎_elim
+        (λ l. l)
+        (λ (all : s.count ≤ done). absurd (brought g s f (carried.0 + 1) a b carried.1 long (first_all _ s done all old.back) (omega arith) new old.tree.root_seen))
+        (cases_lt done s.count)
 
   -- the first `done` places were searched from, and through the first `held` there is no gate
   pub record Explored (a b : ℕ) (s : Seen) (done held : ℕ) : Type 0 where
@@ -89,16 +93,19 @@ module _ (g : List Arc) (f : List ℕ) where
     }
 
     -- all places were searched from, and b is not seen
-    module _ (k : ℕ) (few : k ≤ 1) (sound : Sound g f k a b) (long : length g ≤ length f) (s : Seen) (done held : ℕ) (old : Explored a b s done held) (all : s.count ≤ done) (new : get_or s.rank b 0 ≡ 0) where
+    module _ (proper : Proper g 128) (wide : length f ≡ 384) (sound : (k : ℕ) × (k ≤ 1) × Sound g f k a b) (s : Seen) (done held : ℕ) (old : Explored a b s done held) (all : s.count ≤ done) (new : get_or s.rank b 0 ≡ 0) where
       pub needed : (c : ℕ) → Leaves g s c → Must g a b c
       needed =
-          must g s f k a b sound.carries long (first_all _ s done all old.begun.back) few old.begun.tree.root_seen new (first_all _ s done all old.forth)
+          must g s f sound.0 a b sound.2.carries (long proper wide) (first_all _ s done all old.begun.back) sound.1 old.begun.tree.root_seen new (first_all _ s done all old.forth)
 
       pub cut_off : ((c : ℕ) → Leaves g s c → ⊥) → Refused g a b
       cut_off none =
-          inl (no_route g s f k a b sound.carries long (first_all _ s done all old.begun.back) few old.begun.tree.root_seen new (first_all _ s done all old.forth) none)
+          inl (no_route g s f sound.0 a b sound.2.carries (long proper wide) (first_all _ s done all old.begun.back) sound.1 old.begun.tree.root_seen new (first_all _ s done all old.forth) none)
 
-      module _ (t : Seen) (c start : ℕ) (gate : Leaves g s c) (two : (arc g c).lanes ≡ 2) (noted : Noted s t (arc g c).to c) where
+      module _ (t : Seen) (c start : ℕ) (gate : Leaves g s c) (both : 2 ≤ (arc g c).lanes) (noted : Noted s t (arc g c).to c) where
+        two : (arc g c).lanes ≡ 2
+        two = omega (arith, both, (proper.joins c gate.is).few)
+
         through : More g f (Free g f a b) s t
         through =
             more_forth g f (Free g f a b) s t (arc g c).to c noted gate.is refl (record { usable = gate.usable; room = inr (two, needed c gate) }) gate.seen

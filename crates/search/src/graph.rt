@@ -29,7 +29,8 @@ impl By {
     }
 }
 
-// For each place its first arc, and for each arc the next of the same place. The numbers rise along a chain.
+// For each place its first arc, and for each arc the next of the same place. The numbers rise along a chain. Arrays of one
+// size, since no call may want memory.
 #[derive(Drop)]
 pub(crate) struct Chains {
     by: By,
@@ -54,7 +55,7 @@ impl Chains {
     }
 }
 
-// The arcs and their chains. All of it is lent: a struct that held the chains would be moved and cleared as a whole.
+// The arcs and their chains. All of it is lent: with the chains in it, clearing the struct alone costs a fifth of a search.
 #[derive(Clone, Copy)]
 pub(crate) struct Graph<'a> {
     pub(crate) arcs: &'a [Arc],

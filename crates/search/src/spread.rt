@@ -11,7 +11,8 @@ use crate::{Ends, MAX_ARCS, MAX_PLACES};
 const BOTH: u8 = 2;
 
 // The places seen so far stand in `order`, the first `count` entries. The rank of a place is where it stands there, from 1
-// on; the rank 0 says that it was not seen. `via` has the arc by which it was seen.
+// on; the rank 0 says that it was not seen. `via` has the arc by which it was seen. Arrays and a count, since no call may
+// want memory.
 #[derive(Drop)]
 pub(crate) struct Seen {
     pub(crate) count: usize,
@@ -77,7 +78,8 @@ impl Seen {
         }
     }
 
-    // Sees the places from which arcs bring something to a seen place.
+    // Sees the places from which arcs bring something to a seen place. One method for this and `go_forth` would be handed the
+    // arcs, the test and the end, which is all that they are.
     fn go_back(&mut self, graph: &Graph<'_>, flow: &[u8; MAX_ARCS], place: usize)
         requires { IsSeen self.old place }
         ensures more { More graph.now.arcs.now flow.now Never self.old self.new }
@@ -116,7 +118,7 @@ impl Seen {
     fn gate(&self, graph: &Graph<'_>, held: usize) -> Option<(usize, usize)>
         requires held { held ≤ self.now.count }
         requires passed { OfFirst held self.now (Passed graph.now.arcs.now self.now) }
-        ensures { MatchOption result ((c : ℕ) → Leaves graph.now.arcs.now self.now c → ⊥) (λ x. (x.0 < self.now.count) × (OfFirst x.0 self.now (Passed graph.now.arcs.now self.now)) × (Leaves graph.now.arcs.now self.now x.1)) }
+        ensures { MatchOption result ((c : ℕ) → ¬ (Leaves graph.now.arcs.now self.now c)) (λ x. (x.0 < self.now.count) × (OfFirst x.0 self.now (Passed graph.now.arcs.now self.now)) × (Leaves graph.now.arcs.now self.now x.1)) }
     {
         for (i, place) in self.order[held..self.count].iter().enumerate() {
             if let Some(c) = self.leaving_arc(graph, *place as usize) {
@@ -128,14 +130,16 @@ impl Seen {
 }
 
 impl<'a> Graph<'a> {
-    // Looks for a way from `from` to `to` by which one unit more can go: first all that arcs without flow lead to, or arcs with
-    // flow lead back to; where that is all, on through the gate, an arc that every route needs. None: there are no two routes.
+    // Looks for a way from `from` to `to` by which one unit more can go: first all that arcs without flow lead to, or arcs
+    // with flow lead back to; where that is all, on through the gate, an arc that every route needs. None: there are no two
+    // routes.
     pub(crate) fn explore(&self, flow: &[u8; MAX_ARCS], ends: Ends) -> Option<Seen>
         requires sound { (k : ℕ) × (k ≤ 1) × Sound self.now.arcs.now flow.now k ends.from ends.to }
         ensures { MatchOption result (Refused self.now.arcs.now ends.from ends.to) (λ s. Reached self.now.arcs.now flow.now (Free self.now.arcs.now flow.now ends.from ends.to) ends.from ends.to s.rank s.via) }
     {
         let mut seen = Seen::new(ends.from);
-        // Of the places in `order`, how many were scanned, and how many have no gate any more.
+        // Of the places in `order`, how many were scanned, and how many have no gate any more. The order grows while it is
+        // read, and is read at both, so no iterator goes over it.
         let mut done = 0;
         let mut held = 0;
         while !seen.has(ends.to) {
@@ -162,6 +166,7 @@ impl<'a> Graph<'a> {
         ensures { Reached self.now.arcs.now flow.now Never ends.to ends.from result.rank result.via }
     {
         let mut seen = Seen::new(ends.to);
+        // The order grows while it is read, so no iterator goes over it.
         let mut done = 0;
         while !seen.has(ends.from) {
             let place = seen.order[done] as usize;

@@ -1,4 +1,4 @@
-use Rattle.std.proofs.Common.{◌≤◌, length, inr, arith}
+use Rattle.std.proofs.Common.{inr, arith}
 use Rattle.search.specs.Graph.{Refused}
 use Rattle.search.proofs.Rolled.{unseen}
 use Rattle.search.proofs.Explores.{explored_scan, explored_gate, needed, cut_off}
@@ -12,23 +12,18 @@ loop-ends-preserved-then-done-seen c =
 -- no arc leaves the seen places
 pub returns-in_err-start : goal.returns-in_err-start
 returns-in_err-start c =
-    let s = c.requires.sound in
-    let long : length c.args.self.now.arcs.now ≤ length c.args.flow.now = omega (arith, c.args.self.now.proper.few_arcs, c.told-flow) in
     let none : Refused c.args.self.now.arcs.now c.args.ends.from c.args.ends.to =
-    cut_off _ _ _ _ s.0 s.1 s.2 long _ _ _ c.loop-ends.invariant (omega arith) (unseen _ c.loop-ends-test.ensures) c.in_err-start.ensures in
+    cut_off _ _ _ _ c.args.self.now.proper c.told-flow c.requires.sound _ _ _ c.loop-ends.invariant (omega arith) (unseen _ c.loop-ends-test.ensures) c.in_err-start.ensures in
     rw c.from_residual.ensures none
 
 -- the one that does is on every route
 pub returns-then-arc-lt-BOTH : goal.returns-then-arc-lt-BOTH
 returns-then-arc-lt-BOTH c =
-    let s = c.requires.sound in
-    let long : length c.args.self.now.arcs.now ≤ length c.args.flow.now = omega (arith, c.args.self.now.proper.few_arcs, c.told-flow) in
-    inr (c.in_ok-start.c, needed _ _ _ _ s.0 s.1 s.2 long _ _ _ c.loop-ends.invariant (omega arith) (unseen _ c.loop-ends-test.ensures) _ c.in_ok-start.ensures.2, omega arith)
+    let must =
+    needed _ _ _ _ c.args.self.now.proper c.told-flow c.requires.sound _ _ _ c.loop-ends.invariant (omega arith) (unseen _ c.loop-ends-test.ensures) _ c.in_ok-start.ensures.2 in
+    inr (c.in_ok-start.c, must, omega arith)
 
 pub loop-ends-preserved : goal.loop-ends-preserved
 loop-ends-preserved c =
-    let s = c.requires.sound in
     let e = c.in_ok-start.ensures in
-    let long : length c.args.self.now.arcs.now ≤ length c.args.flow.now = omega (arith, c.args.self.now.proper.few_arcs, c.told-flow) in
-    explored_gate _ _ _ _ s.0 s.1 s.2 long _ _ _ c.loop-ends.invariant (omega arith) (unseen _ c.loop-ends-test.ensures) _ c.in_ok-start.c _ e.2
-    (omega (arith, c.if-arc-lt-BOTH.false, (c.args.self.now.proper.joins c.in_ok-start.c e.2.is).few)) c.see.ensures e.0 e.1
+    explored_gate _ _ _ _ c.args.self.now.proper c.told-flow c.requires.sound _ _ _ c.loop-ends.invariant (omega arith) (unseen _ c.loop-ends-test.ensures) _ c.in_ok-start.c _ e.2 (omega arith) c.see.ensures e.0 e.1

@@ -1,4 +1,4 @@
-use Rattle.std.proofs.Common.{◌<◌, ◌≤◌, length, arith}
+use Rattle.std.proofs.Common.{◌<◌, arith}
 use Rattle.search.proofs.Rolled.{unseen, on_roll}
 use Rattle.search.proofs.Explores.{begun_scan, to_do}
 use Rattle.search.proofs.graph.Graph.gather.Goals as goal
@@ -7,8 +7,7 @@ use Rattle.search.proofs.graph.Graph.gather.Goals.{In-loop-ends}
 -- something is carried, so there is a place to go on from
 left : (c : In-loop-ends) → c.loop-ends.done < c.loop-ends.seen.count
 left c =
-    let long : length c.args.self.now.arcs.now ≤ length c.args.flow.now = omega (arith, c.args.self.now.proper.few_arcs, c.told-flow) in
-    to_do _ _ c.requires.carries.0 _ _ _ _ long c.requires.carries.1 c.loop-ends.invariant (unseen _ c.loop-ends-test.ensures)
+    to_do _ _ c.args.self.now.proper c.told-flow _ _ _ _ c.requires.carries c.loop-ends.invariant (unseen _ c.loop-ends-test.ensures)
 
 pub bounds-seen-done : goal.bounds-seen-done
 bounds-seen-done c = omega (arith, left c, c.loop-ends.seen.roll.counted)
