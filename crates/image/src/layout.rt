@@ -147,12 +147,7 @@ impl<'a> Scan<'a> {
             return Err(Refusal::Short);
         }
         let circuit = read_circuit(rest, 0);
-        if circuit.bad_ends(self.layout.places) {
-            return Err(Refusal::Ends);
-        }
-        if circuit.bad_figures() {
-            return Err(Refusal::Figure);
-        }
+        circuit.check(self.layout.places)?;
         Ok(Scan {
             image: self.image,
             layout: Layout {

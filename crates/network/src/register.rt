@@ -1,6 +1,11 @@
 // A register of circuits: what it means, and what it tells.
-ghost use Rattle.std.specs.Prelude.{◌≡◌, ◌<◌, ◌≤◌, length, MatchOption, Decides};
-ghost use Rattle.network.specs.Network.{Network, BadEnds, BadFigures, Proper, circuit as circuit_of};
+ghost use Rattle.std.specs.Prelude.{◌≡◌, ◌<◌, ◌≤◌, length, MatchOption, MatchResult, Decides};
+ghost use Rattle.network.specs.Network.{Network, BadEnds, BadFigures, Proper, Sound, circuit as circuit_of};
+ghost use Rattle.network.specs.Checks.{First};
+ghost use Rattle.network.specs.Refusals.{number_of};
+ghost use Rattle.network.specs.Table.{circuit_checks};
+
+use super::refusal::Refusal;
 
 // What a register holds at most, in places and in circuits.
 pub const MOST_PLACES: u16 = 128;
@@ -34,6 +39,19 @@ impl Circuit {
         ensures { Decides result (BadFigures self) }
     {
         self.bandwidth < 1 || self.bandwidth > MOST_BANDWIDTH || self.cost > MOST_COST
+    }
+
+    // What every register checks of a circuit among that many places: its ends, then its figures.
+    pub fn check(self, places: u16) -> Result<(), Refusal>
+        ensures { MatchResult result (λ _. Sound places self) (λ e. First (number_of e) (circuit_checks places self)) }
+    {
+        if self.bad_ends(places) {
+            return Err(Refusal::Ends);
+        }
+        if self.bad_figures() {
+            return Err(Refusal::Figure);
+        }
+        Ok(())
     }
 }
 

@@ -1,9 +1,8 @@
 // A register over a table of circuit records that stands in the caller's memory.
 ghost use Rattle.std.specs.Prelude.{◌≡◌, ◌≤◌, [], length, MatchResult};
-ghost use Rattle.network.specs.Checks.{First};
-ghost use Rattle.network.specs.Network.{Proper, Sound};
+ghost use Rattle.network.specs.Network.{Proper};
 ghost use Rattle.network.specs.Refusals.{number_of};
-ghost use Rattle.network.specs.Table.{table, GoodEnds, GoodFigures, table_proper, circuit_checks, Refused, ProperOrRefused, ProperNotRefused, OneTableRefusal};
+ghost use Rattle.network.specs.Table.{table, GoodEnds, GoodFigures, table_proper, Refused, ProperOrRefused, ProperNotRefused, OneTableRefusal};
 
 use super::refusal::{LoadRefusal, Refusal};
 use super::register::{Circuit, MOST_CIRCUITS, MOST_PLACES, Register};
@@ -43,24 +42,13 @@ impl<'a> TableRegister<'a> {
         }
         let places = places as u16;
         for (at, circuit) in circuits.iter().enumerate() {
-            check(places, *circuit).map_err(|refusal| LoadRefusal { refusal, at })?;
+            circuit
+                .check(places)
+                .map_err(|refusal| LoadRefusal { refusal, at })?;
         }
         *self = TableRegister { places, circuits };
         Ok(())
     }
-}
-
-// What is checked of a record among that many places: its ends, then its figures.
-fn check(places: u16, circuit: Circuit) -> Result<(), Refusal>
-    ensures { MatchResult result (λ _. Sound places circuit) (λ e. First (number_of e) (circuit_checks places circuit)) }
-{
-    if circuit.bad_ends(places) {
-        return Err(Refusal::Ends);
-    }
-    if circuit.bad_figures() {
-        return Err(Refusal::Figure);
-    }
-    Ok(())
 }
 
 // A table keeps the limits or is refused, and never both; a refusal has one number at one record.

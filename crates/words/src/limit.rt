@@ -39,7 +39,8 @@ pub trait Limit: Scale {
     ghost single: { Single spells };
 }
 
-// A scale whose values are numbers of 32 bits, and whose limits are written as one.
+// A scale whose values are numbers of 32 bits, and whose limits are written as one. The mark is this crate's own, since only
+// so is it known that the tally has none.
 pub trait OneNumber: Scale<Value = u32> {}
 
 impl OneNumber for Total {}
