@@ -1,5 +1,5 @@
 -- From the tables to the arcs of a search. Assumes nothing.
-use Rattle.std.proofs.Common.{◌≡◌, ℕ, ◌+◌, ◌<◌, ◌≤◌, List, [], ◌∷◌, length, get_or, take, drop, set, Some, None, vec_len, Option, unwrap_or, sym, ap, ◌∙◌, subst, arith, below_more, add-one, drop-cons, length-drop}
+use Rattle.std.proofs.Common.{◌≡◌, ℕ, ◌+◌, ◌<◌, ◌≤◌, List, [], ◌∷◌, length, get_or, take, drop, set, Some, None, vec_len, Option, MatchOption, unwrap_or, sym, ap, ◌∙◌, subst, arith, below_more, add-one, drop-cons, length-drop}
 use Rattle.std.proofs.lemmas.List.{get_or-set_same, get_or-set_other, get_or-take, length-take-le}
 use Rattle.network.specs.declared.register.Circuit.{Circuit}
 use Rattle.network.specs.Network.{Network, Proper, circuit, no_circuit}
@@ -12,7 +12,7 @@ use Rattle.tables.specs.Standing.{Keeps, ledger_of, left_at}
 use Rattle.plan.specs.Arcs.{ArcFor}
 
 -- what the tables tell of what is left, at a circuit that they have
-pub left_told : (t : Tables) (c : ℕ) (r : Option ℕ) → c < vec_len t.circuits → elim r as (λ _. Type 0) [ None ↦ vec_len t.circuits ≤ c | Some x ↦ (c < vec_len t.circuits) × (x ≡ left_at t c) ] → unwrap_or r 0 ≡ left_at t c
+pub left_told : (t : Tables) (c : ℕ) (r : Option ℕ) → c < vec_len t.circuits → MatchOption r (vec_len t.circuits ≤ c) (λ x. (c < vec_len t.circuits) × (x ≡ left_at t c)) → unwrap_or r 0 ≡ left_at t c
 left_told t c None h p = absurd (omega (arith, h, p))
 left_told t c (Some x) h p = p.1
 

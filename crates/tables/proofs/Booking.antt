@@ -7,7 +7,7 @@ use Rattle.scale.specs.Measure.{Measure}
 use Rattle.promise.specs.declared.Mode.{Mode}
 use Rattle.promise.specs.declared.Mode.TheVariants.{OnePlusOne, OneToOne}
 use Rattle.promise.specs.Ledger as ledger
-use Rattle.promise.specs.Ledger.{Ledger, left, takes, Rule, Carries}
+use Rattle.promise.specs.Ledger.{Ledger, left, takes, Carries}
 use Rattle.promise.specs.Promise.{Used}
 use Rattle.tables.specs.declared.rows.Tables.{Tables}
 use Rattle.tables.specs.Standing.{Keeps, ledger_of, left_at}

@@ -1,47 +1,41 @@
 -- What is added and struck out leaves the tables those of a book over the same network. Assumes nothing.
-use Rattle.std.proofs.Common.{◌≡◌, ℕ, zero, suc, ◌+◌, ◌-◌, ◌<◌, ◌≤◌, List, [], ◌∷◌, ◌++◌, map, length, get_or, vec_items, vec_len, sym, refl, ap, ◌∙◌, subst, arith}
-use Rattle.std.specs.List.{remove}
+use Rattle.std.proofs.Common.{◌≡◌, ℕ, ◌<◌, ◌≤◌, List, [], ◌∷◌, ◌++◌, map, length, get_or, vec_items, vec_len, sum_by, sym, refl, ap, ◌∙◌, subst, arith}
+use Rattle.std.proofs.lemmas.List.{map-append}
+use Rattle.std.proofs.lemmas.List.Recursion.{is_sum_by}
+use Rattle.std.proofs.lemmas.List.Sums.{sum_by-append, sum_by-remove}
+use Rattle.std.specs.List.{remove, take-map, drop-map}
 use Rattle.network.specs.Network.{Network, Proper}
 use Rattle.promise.specs.Ledger as ledger
-use Rattle.promise.specs.Ledger.{Ledger, taken}
+use Rattle.promise.specs.Ledger.{taken}
 use Rattle.promise.specs.Promise.{Stands, feed_number, notice_number}
 use Rattle.tables.specs.declared.rows.Tables.{Tables}
-use Rattle.tables.specs.Standing.{Apart, Keeps, idle, ledger_of, left_at, taken_by, feed_at, no_feed}
+use Rattle.tables.specs.Standing.{Apart, Keeps, idle, ledger_of, left_at, taken_by, feed_at, no_feed, TakenOff, GivenBack}
 use Rattle.tables.proofs.Numbers.{apart_push, apart_removed}
-use Rattle.tables.proofs.Taking.{More}
 
 pub map_removed : {A B : Type 0} (f : A → B) (xs : List A) (i : ℕ) → map f (remove xs i) ≡ remove (map f xs) i
-map_removed f [] zero = refl
-map_removed f [] (suc i) = refl
-map_removed f (x ∷ xs) zero = refl
-map_removed f (x ∷ xs) (suc i) = ap (λ ys. f x ∷ ys) (map_removed f xs i)
+map_removed f xs i = simp (map-append, take-map, drop-map)
 
-taken_push : (fs : List ledger.Feed) (f : ledger.Feed) (c : ℕ) → taken (fs ++ f ∷ []) c ≡ taken fs c + taken_by f c
-taken_push [] f c = omega arith
-taken_push (g ∷ gs) f c = omega (arith, taken_push gs f c)
-
-taken_removed : (fs : List ledger.Feed) (i : ℕ) (d : ledger.Feed) (c : ℕ) → i < length fs → taken_by (get_or fs i d) c + taken (remove fs i) c ≡ taken fs c
-taken_removed [] i d c h = absurd (omega arith)
-taken_removed (g ∷ gs) zero d c h = refl
-taken_removed (g ∷ gs) (suc i) d c h = omega (arith, taken_removed gs i d c (omega arith))
+-- what the feeds take of a circuit, as a sum
+taken_sum : (fs : List ledger.Feed) (c : ℕ) → taken fs c ≡ sum_by (λ f. taken_by f c) fs
+taken_sum fs c = is_sum_by (λ gs. taken gs c) (λ f. taken_by f c) refl (λ _ _. refl) fs
 
 module _ (n : Network) (old new : Tables) (long : vec_len new.circuits ≡ vec_len old.circuits) (keeps : Keeps n old) where
   pub keeps_added : (f : ledger.Feed) → (ledger_of new).feeds ≡ (ledger_of old).feeds ++ f ∷ [] → (ledger_of new).notices ≡ (ledger_of old).notices
-      → ((c : ℕ) → c < vec_len old.circuits → left_at new c ≡ left_at old c - taken_by f c)
+      → TakenOff f old new
       → (Stands feed_number f.number (ledger_of old).feeds → ⊥) → ((c : ℕ) → c < length n.circuits → taken_by f c ≤ left_at old c) → Keeps n new
   keeps_added f feeds notices left none fits = record {
     long = long ∙ keeps.long;
     balanced = λ c h.
         let within : c < vec_len old.circuits = omega (arith, keeps.long) in
         let balanced = keeps.balanced c h in
-        let pushed = ap (λ fs. taken fs c) feeds ∙ taken_push (ledger_of old).feeds f c in
-        omega (arith, left c within, fits c h);
+        let pushed = sum_by-append (λ g. taken_by g c) (ledger_of old).feeds (f ∷ []) in
+        omega (arith, left c within, fits c h, taken_sum (ledger_of new).feeds c, taken_sum (ledger_of old).feeds c, ap (sum_by (λ g. taken_by g c)) feeds);
     feeds_apart = subst (Apart feed_number) (sym feeds) (apart_push feed_number (ledger_of old).feeds f keeps.feeds_apart none);
     notices_apart = subst (Apart notice_number) (sym notices) keeps.notices_apart;
   }
 
   pub keeps_struck : Proper n → (i : ℕ) → i < length (ledger_of old).feeds → (ledger_of new).feeds ≡ remove (ledger_of old).feeds i → (ledger_of new).notices ≡ (ledger_of old).notices
-      → ((c : ℕ) → c < vec_len old.circuits → More old (feed_at old i) c (left_at new c))
+      → GivenBack (feed_at old i) old new
       → Keeps n new
   keeps_struck proper i here feeds notices left = record {
     long = long ∙ keeps.long;
@@ -49,9 +43,8 @@ module _ (n : Network) (old new : Tables) (long : vec_len new.circuits ≡ vec_l
         let within : c < vec_len old.circuits = omega (arith, keeps.long) in
         let balanced = keeps.balanced c h in
         let most = (proper.each c h).most_bandwidth in
-        let struck = ap (λ fs. taken fs c) feeds in
-        let without = taken_removed (ledger_of old).feeds i no_feed c here in
-        omega (arith, left c within);
+        let without = sum_by-remove (λ g. taken_by g c) (ledger_of old).feeds i no_feed here in
+        omega (arith, left c within, taken_sum (ledger_of new).feeds c, taken_sum (ledger_of old).feeds c, ap (sum_by (λ g. taken_by g c)) feeds);
     feeds_apart = subst (Apart feed_number) (sym feeds) (apart_removed feed_number (ledger_of old).feeds i keeps.feeds_apart);
     notices_apart = subst (Apart notice_number) (sym notices) keeps.notices_apart;
   }

@@ -1,5 +1,6 @@
 pub mod Booking
 pub mod Entries
+pub mod Filling
 pub mod Keeping
 pub mod Marking
 pub mod Numbers

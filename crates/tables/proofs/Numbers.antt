@@ -1,5 +1,5 @@
 -- Records that go by a number: which number stands in a list, and what a look-up, an addition and a strike come to. Assumes nothing.
-use Rattle.std.proofs.Common.{◌≡◌, ℕ, zero, suc, ◌<◌, eqb, List, [], ◌∷◌, ◌++◌, map, length, get_or, Some, None, vec_items, vec_len, Option, Vec, sym, refl, ap, ◌∙◌, subst, inl, inr, arith}
+use Rattle.std.proofs.Common.{◌≡◌, ℕ, zero, suc, ◌<◌, eqb, List, [], ◌∷◌, ◌++◌, map, length, get_or, Some, None, vec_items, vec_len, Option, Vec, sym, refl, ap, ◌∙◌, subst, inl, inr, arith, MatchOption}
 use Rattle.std.specs.declared.alloc.Global.{Global}
 use Rattle.std.specs.List.{remove}
 use Rattle.std.proofs.lemmas.List.{get_or-map, length-map}
@@ -70,8 +70,8 @@ module _ {A B : Type 0} (f : A → B) (number : B → ℕ) where
 
   -- what a look-up in the tables says of the ledger's list
   pub found : (v : Vec A Global) (ys : List A) (k : ℕ) (e : B) (r : Option ℕ) → ys ≡ vec_items v
-      → elim r as (λ (o : Option ℕ). Type 0) [ None ↦ ((i : ℕ) (d : A) → i < length ys → number (f (get_or ys i d)) ≡ k → ⊥) | Some i ↦ (i < length ys) × ((d : A) → number (f (get_or ys i d)) ≡ k) × ((j : ℕ) (d : A) → j < i → number (f (get_or ys j d)) ≡ k → ⊥) ]
-      → elim r as (λ (o : Option ℕ). Type 0) [ None ↦ (Stands number k (map f (vec_items v)) → ⊥) | Some i ↦ (i < vec_len v) × (number (get_or (map f (vec_items v)) i e) ≡ k) × Stands number k (map f (vec_items v)) ]
+      → MatchOption r ((i : ℕ) (d : A) → i < length ys → number (f (get_or ys i d)) ≡ k → ⊥) (λ i. (i < length ys) × ((d : A) → number (f (get_or ys i d)) ≡ k) × ((j : ℕ) (d : A) → j < i → number (f (get_or ys j d)) ≡ k → ⊥))
+      → MatchOption r (Stands number k (map f (vec_items v)) → ⊥) (λ i. (i < vec_len v) × (number (get_or (map f (vec_items v)) i e) ≡ k) × Stands number k (map f (vec_items v)))
   found v ys k e None same h = none_stands (vec_items v) k (subst (λ xs. (i : ℕ) (d : A) → i < length xs → number (f (get_or xs i d)) ≡ k → ⊥) same h)
   found v ys k e (Some i) same (within, here, before) =
       let long = v.ok in

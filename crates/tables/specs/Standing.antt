@@ -1,5 +1,5 @@
 -- What the tables stand for: a ledger, and the bandwidth left on each circuit. Assumes nothing.
-use Rattle.std.specs.Prelude.{◌≡◌, ℕ, ◌+◌, ◌<◌, List, [], ◌∷◌, map, length, get_or, take, vec_items, vec_len, slice_index_or}
+use Rattle.std.specs.Prelude.{◌≡◌, ℕ, ◌+◌, ◌-◌, ◌^◌, ◌<◌, min, List, [], ◌∷◌, map, length, get_or, take, vec_items, vec_len, slice_index_or}
 use Rattle.std.specs.Vec.{with_item}
 use Rattle.std.proofs.Props.{props}
 use Rattle.std.specs.Coded.{×_prop, →_prop, Unit-prop}
@@ -58,6 +58,20 @@ left_at t c = (get_or (vec_items t.circuits) c idle).left
 -- the tables with a circuit's state changed to this
 abbrev pub with_circuit : Tables → ℕ → CircuitState → Tables
 with_circuit t c w = record { circuits = with_item t.circuits c w; feeds = t.feeds; notices = t.notices; few_circuits = t.few_circuits; few_feeds = t.few_feeds; few_notices = t.few_notices; feed_room = t.feed_room; notice_room = t.notice_room }
+
+-- there are as many circuits, and the same feeds and notices stand: only what is left on the circuits may differ
+pub record SameButLeft (old new : Tables) : Type 0 where
+  pub circuits : vec_len new.circuits ≡ vec_len old.circuits
+  pub feeds : new.feeds ≡ old.feeds
+  pub notices : new.notices ≡ old.notices
+
+-- what the feed takes is off what was left, on each circuit
+abbrev pub TakenOff : ledger.Feed → Tables → Tables → Type 0
+TakenOff f old new = (c : ℕ) → c < vec_len old.circuits → left_at new c ≡ left_at old c - taken_by f c
+
+-- what the feed takes is added to what was left, on each circuit, up to the largest number that fits
+abbrev pub GivenBack : ledger.Feed → Tables → Tables → Type 0
+GivenBack f old new = (c : ℕ) → c < vec_len old.circuits → left_at new c ≡ min (left_at old c + taken_by f c) (2 ^ 32 - 1)
 
 -- no two records of the list have the same number
 abbrev pub Apart : {A : Type 0} → (A → ℕ) → List A → Type 0

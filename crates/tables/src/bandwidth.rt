@@ -1,15 +1,15 @@
 // The bandwidth left on each circuit: one circuit's state lent, and what a feed takes and gives back.
-ghost use Rattle.std.specs.Prelude.{◌≡◌, ℕ, ◌+◌, ◌-◌, ◌^◌, ◌<◌, ◌≤◌, min, List, vec_len, slice_index_or};
+ghost use Rattle.std.specs.Prelude.{◌≡◌, ℕ, ◌<◌, vec_len, slice_index_or};
 ghost use Rattle.std.specs.Borrow.{sem, follows};
 ghost use Rattle.network.specs.Routes.{uses};
-ghost use Rattle.promise.specs.Ledger.{takes};
 ghost use Rattle.tables.specs.contracts.rows.CircuitState.{the_row as circuit_row};
 ghost use Rattle.tables.specs.contracts.rows.Tables.{the_row as tables_row};
-ghost use Rattle.tables.specs.Standing.{feed_of, left_at, taken_by, idle, with_circuit};
+ghost use Rattle.tables.specs.Standing.{route_of, feed_of, left_at, taken_by, idle, with_circuit, SameButLeft, TakenOff, GivenBack};
 
-use crate::rows::{CircuitState, Feed, Tables};
-use crate::tables::marks;
+use crate::route::marks;
+use crate::rows::{CircuitState, Feed, MAX_CIRCUITS, Tables};
 use promise::Mode;
+use std::array;
 
 impl Tables {
     // Lends one circuit's state: the tables then have it as it is given back, and all else as it was.
@@ -21,46 +21,54 @@ impl Tables {
         &mut self.circuits[circuit]
     }
 
+    // Changes what is left on each circuit by what the feed takes there.
+    fn change_left<F: Fn(u32, u32) -> u32>(&mut self, feed: &Feed, change: F)
+        requires { F.IsAlwaysCallable change }
+        ensures left { (c : ℕ) → c < vec_len self.old.circuits
+            → F.post change (left_at self.old c) (taken_by (feed_of feed.now) c) (left_at self.new c) }
+        ensures rest { SameButLeft self.old self.new }
+    {
+        let taken = feed.taken();
+        for (number, taken) in taken[..self.circuits.len()].iter().enumerate() {
+            let circuit = self.circuit_mut(number);
+            circuit.left = change(circuit.left, *taken);
+        }
+    }
+
     // Takes what the feed takes on each circuit.
     pub fn take(&mut self, feed: &Feed)
-        ensures left { (c : ℕ) → c < vec_len self.old.circuits → left_at self.new c ≡ left_at self.old c - taken_by (feed_of feed.now) c }
-        ensures circuits { vec_len self.new.circuits ≡ vec_len self.old.circuits }
-        ensures feeds { self.new.feeds ≡ self.old.feeds }
-        ensures notices { self.new.notices ≡ self.old.notices }
+        ensures left { TakenOff (feed_of feed.now) self.old self.new }
+        ensures rest { SameButLeft self.old self.new }
     {
-        let first = marks(&feed.first);
-        let second = marks(&feed.second);
-        for number in 0..self.circuits.len() {
-            let taken = amount(feed.mode, feed.rate, first[number], second[number]);
-            let circuit = self.circuit_mut(number);
-            circuit.left = circuit.left.saturating_sub(taken);
-        }
+        self.change_left(feed, |left, taken| left.saturating_sub(taken));
     }
 
     // Gives back what the feed takes on each circuit.
     pub fn give_back(&mut self, feed: &Feed)
-        ensures left { (c : ℕ) → c < vec_len self.old.circuits → left_at self.new c ≡ min (left_at self.old c + taken_by (feed_of feed.now) c) (2 ^ 32 - 1) }
-        ensures circuits { vec_len self.new.circuits ≡ vec_len self.old.circuits }
-        ensures feeds { self.new.feeds ≡ self.old.feeds }
-        ensures notices { self.new.notices ≡ self.old.notices }
+        ensures left { GivenBack (feed_of feed.now) self.old self.new }
+        ensures rest { SameButLeft self.old self.new }
     {
-        let first = marks(&feed.first);
-        let second = marks(&feed.second);
-        for number in 0..self.circuits.len() {
-            let given = amount(feed.mode, feed.rate, first[number], second[number]);
-            let circuit = self.circuit_mut(number);
-            circuit.left = circuit.left.saturating_add(given);
-        }
+        self.change_left(feed, |left, given| left.saturating_add(given));
     }
 }
 
-// What a feed takes on a circuit, by which of its routes use it.
-fn amount(mode: Mode, rate: u32, in_first: bool, in_second: bool) -> u32
-    requires { rate ≤ 1000000 }
-    ensures { (c : ℕ) (first second : List ℕ) → in_first ≡ uses c first → in_second ≡ uses c second → result ≡ takes mode rate first second c }
-{
-    match mode {
-        Mode::OnePlusOne => (u32::from(in_first) + u32::from(in_second)) * rate,
-        Mode::OneToOne => { if in_first || in_second { rate } else { 0 } }
+impl Feed {
+    // What the feed takes on each circuit.
+    fn taken(&self) -> [u32; MAX_CIRCUITS]
+        ensures { (c : ℕ) → c < 384 → slice_index_or result c 0 ≡ taken_by (feed_of self.now) c }
+    {
+        let first = marks(&self.first);
+        let second = marks(&self.second);
+        array::from_fn(|c| self.amount(first[c], second[c]))
+    }
+    // What it takes on a circuit, by which of its routes use it.
+    fn amount(&self, in_first: bool, in_second: bool) -> u32
+        ensures { (c : ℕ) → in_first ≡ uses c (route_of self.now.first) → in_second ≡ uses c (route_of self.now.second)
+            → result ≡ taken_by (feed_of self.now) c }
+    {
+        match self.mode {
+            Mode::OnePlusOne => (u32::from(in_first) + u32::from(in_second)) * self.rate,
+            Mode::OneToOne => { if in_first || in_second { self.rate } else { 0 } }
+        }
     }
 }

@@ -5,9 +5,10 @@ mod bandwidth;
 mod ledger;
 mod making;
 mod numbered;
+mod route;
 mod rows;
 mod tables;
 
 pub use numbered::{Numbered, find};
+pub use route::marks;
 pub use rows::{CircuitState, Feed, MAX_CIRCUITS, MAX_ROUTE, MAX_STANDING, Notice, Route, Tables};
-pub use tables::marks;

@@ -1,25 +1,21 @@
 // The tables of a new book: every circuit whole, and nothing standing.
-ghost use Rattle.std.specs.Prelude.{◌≡◌, ℕ, ◌<◌, ◌≤◌, length, IfOk, vec_len, slice_index_or};
-ghost use Rattle.network.specs.Network.{circuit as circuit_of};
+ghost use Rattle.std.specs.Prelude.{◌≡◌, map, IfOk};
 ghost use Rattle.promise.specs.Ledger.{nothing_yet};
-ghost use Rattle.tables.specs.Standing.{Keeps, ledger_of, idle};
+ghost use Rattle.tables.specs.Standing.{Keeps, ledger_of};
 
 use crate::rows::{CircuitState, MAX_STANDING, Tables};
-use network::Register;
+use network::{Circuits, Register};
 use std::alloc::{AllocError, Global};
 
 // Each circuit with all of its bandwidth left.
 fn whole_circuits<R: Register>(heap: Global, register: &R) -> Result<Vec<CircuitState>, AllocError>
-    ensures { IfOk result (λ v. (vec_len v ≡ length (R.network register.now).circuits) × ((c : ℕ) → c < length (R.network register.now).circuits → (slice_index_or v.items c idle).left ≡ (circuit_of (R.network register.now) c).bandwidth)) }
+    ensures { IfOk result (λ v. v.items ≡ map (λ c. record { left = c.bandwidth }) (R.network register.now).circuits) }
 {
-    let count = register.circuits();
-    let mut whole = Vec::with_capacity(heap, usize::from(count))?;
-    for number in 0..count {
-        if let Some(circuit) = register.circuit(u32::from(number)) {
-            whole.push(CircuitState {
-                left: circuit.bandwidth,
-            })?;
-        }
+    let mut whole = Vec::with_capacity(heap, usize::from(register.circuits()))?;
+    for circuit in Circuits::of(register) {
+        whole.push(CircuitState {
+            left: circuit.bandwidth,
+        })?;
     }
     Ok(whole)
 }

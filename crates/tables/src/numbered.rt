@@ -1,5 +1,5 @@
 // Records that go by a number, and the look-up of one.
-ghost use Rattle.std.specs.Prelude.{◌≡◌, ℕ, ◌<◌, ◌≤◌, length, Some, None, ◌≢◌, slice_index_or};
+ghost use Rattle.std.specs.Prelude.{◌≡◌, ℕ, ◌<◌, ◌≢◌, length, MatchOption, slice_index_or};
 
 use crate::rows::{Feed, Notice};
 
@@ -29,12 +29,10 @@ impl Numbered for Notice {
 
 // The place of the first record of that number, or nothing where no record has it.
 pub fn find<T: Numbered>(records: &[T], number: u32) -> Option<usize>
-    ensures { elim result [ None ↦ ((k : ℕ) (d : T) → k < length records.now → T.number_of (slice_index_or records.now k d) ≢ number) | Some i ↦ (i < length records.now) × ((d : T) → T.number_of (slice_index_or records.now i d) ≡ number) × ((k : ℕ) (d : T) → k < i → T.number_of (slice_index_or records.now k d) ≢ number) ] }
+    ensures { MatchOption result
+        ((k : ℕ) (d : T) → k < length records.now → T.number_of (slice_index_or records.now k d) ≢ number)
+        (λ i. (i < length records.now) × ((d : T) → T.number_of (slice_index_or records.now i d) ≡ number)
+        × ((k : ℕ) (d : T) → k < i → T.number_of (slice_index_or records.now k d) ≢ number)) }
 {
-    for (i, record) in records.iter().enumerate() {
-        if record.number() == number {
-            return Some(i);
-        }
-    }
-    None
+    records.iter().position(|record| record.number() == number)
 }

@@ -11,7 +11,8 @@ pub const MAX_CIRCUITS: usize = 384;
 // At most so many feeds stand, and as many notices.
 pub const MAX_STANDING: usize = 32;
 
-// The circuits of a route, in its order; what stands past its length means nothing.
+// The circuits of a route, in its order; what stands past its length means nothing. No heap: a feed is `Copy`, and no call
+// on a book may want memory.
 #[derive(Clone, Copy)]
 pub struct Route {
     pub length: usize,

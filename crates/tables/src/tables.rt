@@ -1,78 +1,59 @@
 // What the tables tell, each by the ledger that they stand for.
-ghost use Rattle.std.specs.Prelude.{◌≡◌, ℕ, ◌<◌, ◌≤◌, true, false, [], ◌∷◌, Some, None, vec_len, slice_index_or};
-ghost use Rattle.network.specs.Routes.{uses, times};
+ghost use Rattle.std.specs.Prelude.{◌≡◌, ℕ, ◌<◌, ◌≤◌, ◌↔◌, true, false, [], ◌∷◌, vec_len, slice_index_or, IsTrue, MatchOption};
+ghost use Rattle.network.specs.Routes.{times};
 ghost use Rattle.promise.specs.Ledger.{Open};
 ghost use Rattle.promise.specs.Promise.{Stands, feed_number, notice_number};
-ghost use Rattle.tables.specs.Standing.{route_of, ledger_of, left_at, feed_at, notice_at};
+ghost use Rattle.tables.specs.Standing.{ledger_of, left_at, feed_at, notice_at};
 
 use crate::numbered::find;
-use crate::rows::{MAX_CIRCUITS, Route, Tables};
-
-// Which circuits a route uses.
-pub fn marks(route: &Route) -> [bool; MAX_CIRCUITS]
-    ensures { (c : ℕ) → c < 384 → slice_index_or result c false ≡ uses c (route_of route.now) }
-{
-    let mut marks = [false; MAX_CIRCUITS];
-    for i in 0..route.length {
-        let c = route.circuits[i] as usize;
-        if c < MAX_CIRCUITS {
-            marks[c] = true;
-        }
-    }
-    marks
-}
+use crate::route::mark;
+use crate::rows::{MAX_CIRCUITS, Tables};
 
 impl Tables {
     // The bandwidth left on a circuit, or nothing where there is none of that number.
     pub fn left(&self, circuit: u32) -> Option<u32>
-        ensures { elim result [ None ↦ vec_len self.now.circuits ≤ circuit | Some left ↦ (circuit < vec_len self.now.circuits) × (left ≡ left_at self.now circuit) ] }
+        ensures { MatchOption result (vec_len self.now.circuits ≤ circuit)
+            (λ left. (circuit < vec_len self.now.circuits) × (left ≡ left_at self.now circuit)) }
     {
-        if circuit as usize >= self.circuits.len() {
-            return None;
-        }
-        Some(self.circuits[circuit as usize].left)
+        self.circuits.get(circuit as usize).map(|c| c.left)
     }
 
     // Which circuits a standing notice names.
     pub fn closed(&self) -> [bool; MAX_CIRCUITS]
         ensures no { (c : ℕ) → c < 384 → slice_index_or result c false ≡ false → Open (ledger_of self.now) c }
-        ensures yes { (c : ℕ) → c < 384 → slice_index_or result c false ≡ true → Open (ledger_of self.now) c → ⊥ }
+        ensures yes { (c : ℕ) → c < 384 → slice_index_or result c false ≡ true → ¬ Open (ledger_of self.now) c }
     {
         let mut closed = [false; MAX_CIRCUITS];
-        for notice in self.notices.iter() {
-            let c = notice.circuit as usize;
-            if c < MAX_CIRCUITS {
-                closed[c] = true;
-            }
+        for notice in &self.notices {
+            mark(&mut closed, notice.circuit as usize);
         }
         closed
     }
 
-    // The place of the standing feed of that number, or nothing where none stands.
+    // The place of the standing feed of that number, or nothing where none stands. It and `find_notice` are `find` in the
+    // ledger's words: a trait for both would want the ledger's list, its entries and their numbers, and be longer than both.
     pub fn find_feed(&self, number: u32) -> Option<usize>
-        ensures { elim result [ None ↦ (Stands feed_number number (ledger_of self.now).feeds → ⊥) | Some i ↦ (i < vec_len self.now.feeds) × ((feed_at self.now i).number ≡ number) × Stands feed_number number (ledger_of self.now).feeds ] }
+        ensures { MatchOption result (¬ Stands feed_number number (ledger_of self.now).feeds)
+            (λ i. (i < vec_len self.now.feeds) × ((feed_at self.now i).number ≡ number)
+            × Stands feed_number number (ledger_of self.now).feeds) }
     {
         find(&self.feeds, number)
     }
 
     // The place of the standing notice of that number, or nothing where none stands.
     pub fn find_notice(&self, number: u32) -> Option<usize>
-        ensures { elim result [ None ↦ (Stands notice_number number (ledger_of self.now).notices → ⊥) | Some i ↦ (i < vec_len self.now.notices) × ((notice_at self.now i).number ≡ number) × Stands notice_number number (ledger_of self.now).notices ] }
+        ensures { MatchOption result (¬ Stands notice_number number (ledger_of self.now).notices)
+            (λ i. (i < vec_len self.now.notices) × ((notice_at self.now i).number ≡ number)
+            × Stands notice_number number (ledger_of self.now).notices) }
     {
         find(&self.notices, number)
     }
 
     // Whether no standing notice names the circuit.
     pub fn is_open(&self, circuit: u32) -> bool
-        ensures yes { result ≡ true → Open (ledger_of self.now) circuit }
-        ensures no { result ≡ false → Open (ledger_of self.now) circuit → ⊥ }
+        ensures { IsTrue result ↔ Open (ledger_of self.now) circuit }
     {
-        for notice in self.notices.iter() {
-            if notice.circuit == circuit {
-                return false;
-            }
-        }
-        true
+        !self.notices.iter().any(|notice| notice.circuit == circuit)
     }
 
     // How many of the two routes of a standing feed use the circuit.
@@ -81,18 +62,6 @@ impl Tables {
         ensures { result ≡ times circuit ((feed_at self.now i).first ∷ (feed_at self.now i).second ∷ []) }
     {
         let feed = &self.feeds[i];
-        u8::from(on_route(&feed.first, circuit)) + u8::from(on_route(&feed.second, circuit))
+        u8::from(feed.first.uses(circuit)) + u8::from(feed.second.uses(circuit))
     }
-}
-
-// Whether a route uses the circuit.
-fn on_route(route: &Route, circuit: u32) -> bool
-    ensures { result ≡ uses circuit (route_of route.now) }
-{
-    for i in 0..route.length {
-        if u32::from(route.circuits[i]) == circuit {
-            return true;
-        }
-    }
-    false
 }

@@ -1,9 +1,9 @@
-use Rattle.std.proofs.Common.{◌≡◌, ℕ, ◌<◌, get_or, vec_items, vec_len}
-use Rattle.network.specs.Network.{circuit}
-use Rattle.tables.specs.Standing.{idle}
+use Rattle.std.proofs.Common.{◌≡◌, ◌++◌, drop, map, vec_items}
+use Rattle.network.specs.declared.register.Circuit.{Circuit}
 use Rattle.tables.proofs.making.whole_circuits.Given as goal
 
-abbrev pub invariant-loop-number : goal.invariant-loop-number
-invariant-loop-number g l =
-    (vec_len l.whole ≡ l.number)
-    × ((c : ℕ) → c < l.number → (get_or (vec_items l.whole) c idle).left ≡ (circuit (g.R.Register.network l.register) c).bandwidth)
+-- the circuits told so far are whole, and the others are still to come
+abbrev pub invariant-loop-circuit : goal.invariant-loop-circuit
+invariant-loop-circuit g l =
+    (l.yielded ++ drop l.circuit-iterator.left.start (g.R.Register.network l.circuit-iterator.register.now).circuits ≡ (g.R.Register.network l.fn.register).circuits)
+    × (vec_items l.whole ≡ map (λ (c : Circuit). record { left = c.bandwidth }) l.yielded)

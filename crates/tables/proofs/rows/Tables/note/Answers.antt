@@ -1,4 +1,4 @@
-use Rattle.std.proofs.Common.{◌≡◌, [], ◌∷◌, ◌++◌, map, vec_items, sym, refl, ap, ◌∙◌, subst}
+use Rattle.std.proofs.Common.{map, vec_items, sym, refl, ap, ◌∙◌, subst}
 use Rattle.std.proofs.lemmas.List.{map_push}
 use Rattle.promise.specs.Promise.{notice_number}
 use Rattle.tables.specs.Standing.{Apart, notice_of, ledger_of}
@@ -6,16 +6,9 @@ use Rattle.tables.proofs.Keeping.{keeps_notices}
 use Rattle.tables.proofs.Numbers.{apart_push}
 use Rattle.tables.proofs.rows.Tables.note.Goals as goal
 
-pub returns : goal.returns
-returns c =
+pub returns-clause-keeps : goal.returns-clause-keeps
+returns-clause-keeps c = λ n keeps none.
     let old = c.args.self.now in
-    let x = notice_of c.args.notice in
-    let notices : map notice_of (vec_items c.push_reserved.new.self) ≡ map notice_of (vec_items old.notices) ++ x ∷ [] =
-    ap (map notice_of) c.push_reserved.ensures.items ∙ map_push notice_of (vec_items old.notices) c.args.notice in
-    record {
-      ledger = λ j. record { feeds = (ledger_of old).feeds; notices = notices j };
-      feeds = refl;
-      circuits = refl;
-      keeps = λ n keeps none. keeps_notices n old _ refl refl keeps
-          (subst (Apart notice_number) (sym notices) (apart_push notice_number (ledger_of old).notices x keeps.notices_apart none));
-    }
+    let notices = ap (map notice_of) c.push_reserved.ensures.items ∙ map_push notice_of (vec_items old.notices) c.args.notice in
+    keeps_notices n old _ refl refl keeps
+    (subst (Apart notice_number) (sym notices) (apart_push notice_number (ledger_of old).notices (notice_of c.args.notice) keeps.notices_apart none))

@@ -1,5 +1,0 @@
-use Rattle.std.proofs.Common.{◌≡◌, ℕ, ◌<◌, get_or}
-use Rattle.tables.proofs.numbered.find.Given as goal
-
-abbrev pub invariant-loop-i : goal.invariant-loop-i
-invariant-loop-i g l = (k : ℕ) (d : g.row.T.Denot) → k < l.i → g.T.Numbered.number_of (get_or l.records k d) ≡ l.number → ⊥
