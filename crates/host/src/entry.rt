@@ -13,7 +13,7 @@ use promise::Mode;
 use scale::Total;
 use std::alloc::Global;
 
-// The mode that C means by a number.
+// The mode that C means by a number. No `TryFrom`, since the enum is another crate's.
 fn mode_of(number: u32) -> Result<Mode, Refusal>
     ensures { MatchResult result (λ m. Means number m) (λ e. (e ≡ Refusal.Mode) × UnknownMode number) }
 {
@@ -24,7 +24,7 @@ fn mode_of(number: u32) -> Result<Mode, Refusal>
     }
 }
 
-// Loads the image, asks a new book over it for the safest pair, and writes the pair to the output.
+// Loads the image, asks a new book over it for the safest pair, and writes the pair to the output. The arguments are C's own.
 fn safest_pair(
     heap: Global,
     image: &[u8],

@@ -4,7 +4,7 @@ use scale::{Scale, Tally, Total, Worst};
 use std::io::Write;
 use std::{fmt, io};
 
-// How a value of the scale is written.
+// How a value of the scale is written. No `Display`, since a tally's value is a tuple, for which that is std's to write.
 pub trait Printed: Scale {
     fn write_cost<W: Write>(cost: Self::Value, out: &mut W) -> io::Result<()>;
 }

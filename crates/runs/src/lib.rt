@@ -88,6 +88,7 @@ pub fn run<R: Register + Drop, S: Scale + Drop>(
     let mut book = Book::new(heap, register, scale)?;
     let mut answers = Vec::with_capacity(heap, orders.len())?;
     for order in orders {
+        // A refusal is an answer too; only a reply may find no memory.
         let answer = match play(heap, &mut book, *order) {
             Ok(reply) => Ok(reply?),
             Err(refusal) => Err(refusal),

@@ -69,7 +69,7 @@ pub fn numeral(part: Part, word: &[u8]) -> Result<u32, Fault>
     number(word).ok_or(Fault::Number(part))
 }
 
-// The mode that the word names.
+// The mode that the word names. No `TryFrom`, since the enum is another crate's.
 pub fn mode(word: &[u8]) -> Result<Mode, Fault>
     ensures { Reads result (λ m. word.now ≡ mode_text m) }
 {
