@@ -15,10 +15,10 @@ const BOTH: u8 = 2;
 // want memory.
 #[derive(Drop)]
 pub(crate) struct Seen {
-    pub(crate) count: usize,
+    count: usize,
     pub(crate) rank: [u8; MAX_PLACES],
     pub(crate) via: [u16; MAX_PLACES],
-    pub(crate) order: [u8; MAX_PLACES],
+    order: [u8; MAX_PLACES],
     ghost roll: { Roll count rank via order },
 }
 
