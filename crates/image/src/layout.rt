@@ -1,5 +1,5 @@
 // Where the records of an image stand: the places first, then the circuits, then the end.
-ghost use Rattle.std.specs.Prelude.{◌≡◌, ℕ, ◌+◌, ◌*◌, ◌^◌, ◌<◌, ◌≤◌, ◌↔◌, length, slice_index, take, drop, IsTrue, MatchResult, MatchOption};
+ghost use Rattle.std.specs.Prelude.{◌≡◌, ℕ, ◌+◌, ◌*◌, ◌^◌, ◌<◌, ◌↔◌, slice_index, drop, IsTrue, MatchResult, MatchOption};
 ghost use Rattle.image_format.specs.Image.{Repeats, Refused};
 ghost use Rattle.image.specs.Layout.{end_of, names_in, Scanned, Complete, MarkAt, RefusedAfter};
 ghost use Rattle.image.specs.Held.{scanned_prop};

@@ -1,5 +1,5 @@
 // A register that reads its network in an image that is lent to it: it keeps no copy.
-ghost use Rattle.std.specs.Prelude.{◌≡◌, ℕ, ◌≤◌, true, List, [], IsOk, MatchOption, MatchResult};
+ghost use Rattle.std.specs.Prelude.{◌≡◌, ℕ, ◌≤◌, List, [], IsOk, MatchOption, MatchResult};
 ghost use Rattle.image.specs.Held.{Held, Loaded, Named, proper_held};
 ghost use Rattle.image_format.specs.Image.{Image, Refused};
 ghost use Rattle.image.specs.Layout.{network_in};

@@ -24,6 +24,9 @@ module _ (n : Network) (front rest : List Circuit) (count i : ℕ) (x : Circuit)
   pub comes_within : i < length n.circuits
   comes_within = omega (arith, ap length at_front, length-drop i n.circuits)
 
+  pub comes_low : Proper n → i < 384
+  comes_low proper = omega (arith, comes_within, proper.few_circuits)
+
   comes : x ∷ rest ≡ circuit n i ∷ drop (i + 1) n.circuits
   comes = sym at_front ∙ rw (add-one, drop-cons n.circuits i no_circuit comes_within)
 

@@ -55,9 +55,6 @@ module _ {V : Type 0} (s : Measure V) (lawful : Lawful s) (n : Network) (l : Led
     pub had : Found low high found
     pub below : Below s lawful n l a b m high limit
 
-  pub between_all : Between 0 1000001 (Err refusal.NoPair)
-  between_all = record { had = (refl, inl refl); below = λ r' h rs ch w. omega arith }
-
   -- a turn raises the lower rate, or lowers the upper
   pub raised : (low high rate : ℕ) (found : Result (ℕ × Plan V) Refusal) (p : Plan V) → 1 ≤ rate → SafestPlan s n l a b m rate p × AtMost s p.cost limit → Between low high found → Between rate high (Ok (rate, p))
   raised low high rate found p some safe known = record { had = (refl, some, safe.0, safe.1); below = known.below }

@@ -1,11 +1,11 @@
 -- The loop that adds up what two routes share, by the marks of the circuits that each uses. Assumes nothing.
-use Rattle.std.proofs.Common.{◌≡◌, ℕ, ◌+◌, ◌<◌, Bool, true, false, cond, ◌&&◌, List, [], ◌∷◌, length, get_or, drop, sym, refl, ap, ◌∙◌, subst, arith}
+use Rattle.std.proofs.Common.{◌≡◌, ℕ, ◌+◌, ◌<◌, Bool, true, false, cond, ◌&&◌, List, [], ◌∷◌, length, get_or, drop, sym, refl, ap, ◌∙◌, subst}
 use Rattle.network.specs.declared.register.Circuit.{Circuit}
 use Rattle.network.specs.Network.{Network, Proper, circuit}
 use Rattle.network.specs.Routes.{uses, shared}
 use Rattle.scale.specs.Measure.{Measure, Lawful}
 use Rattle.scale.proofs.Costs.{SoFar, cost_more}
-use Rattle.plan.proofs.Circuits.{comes_within, comes_circuit, comes_rest}
+use Rattle.plan.proofs.Circuits.{comes_within, comes_low, comes_circuit, comes_rest}
 
 both_shared : (p q : Bool) → p && (q && true) ≡ p && q
 both_shared true true = refl
@@ -28,5 +28,5 @@ module _ {V : Type 0} (s : Measure V) (lawful : Lawful s) (n : Network) (proper 
       → get_or marks_first i false && get_or marks_second i false ≡ t → SoFar s lawful n pair count x → (rest ≡ drop next n.circuits) × SoFar s lawful n pair next (cond t (s.join x (s.weight y.cost)) x)
   cost_next marks_first marks_second by_first by_second front rest count i next y x t from comes is up both far =
       let on : i < length n.circuits = comes_within n front rest count i y from comes is in
-      let low : i < 384 = omega (arith, on, proper.few_circuits) in
+      let low = comes_low n front rest count i y from comes is proper in
       rw (up, ← is, comes_circuit n front rest count i y from comes is) (comes_rest n front rest count i y from comes is, cost_marked i x on _ _ t (by_first i low) (by_second i low) both (rw is far))

@@ -1,5 +1,5 @@
 use Rattle.std.proofs.Common.{ℕ, ◌<◌, ◌≤◌, length, arith, length-set}
-use Rattle.plan.proofs.Circuits.{comes_within, comes_rest, none_comes, arc_written, arcs_proper, arcs_lanes}
+use Rattle.plan.proofs.Circuits.{comes_low, comes_rest, none_comes, arc_written, arcs_proper, arcs_lanes}
 use Rattle.plan.proofs.question.Question.arcs.Goals as goal
 
 pub loop-c-preserved : goal.loop-c-preserved
@@ -12,7 +12,7 @@ loop-c-preserved g c =
     rw (steps.2, ← steps.1) (
       comes_rest n _ _ _ i _ inv.0 steps.0 steps.1,
       omega (arith, length-set c.loop-c.arcs i c.arc_of.result),
-      arc_written _ _ _ _ c.loop-c.arcs i c.arc_of.result (omega (arith, comes_within n _ _ _ i _ inv.0 steps.0 steps.1, (g.R.Register.proper x).few_circuits)) (rw steps.1 inv.2) c.arc_of.ensures,
+      arc_written _ _ _ _ c.loop-c.arcs i c.arc_of.result (omega (arith, comes_low n _ _ _ i _ inv.0 steps.0 steps.1 (g.R.Register.proper x))) (rw steps.1 inv.2) c.arc_of.ensures,
     )
 
 pub returns : goal.returns

@@ -1,7 +1,7 @@
-use Rattle.std.proofs.Common.{true, false, [], ◌∷◌, arith}
+use Rattle.std.proofs.Common.{true, false, [], ◌∷◌}
 use Rattle.scale.proofs.Costs.{cost_none}
 use Rattle.tables.specs.Standing.{route_of}
-use Rattle.plan.proofs.Circuits.{comes_within}
+use Rattle.plan.proofs.Circuits.{comes_low}
 use Rattle.plan.proofs.Sharing.{cost_next}
 use Rattle.plan.proofs.question.Question.shared_cost.Goals as goal
 
@@ -12,9 +12,13 @@ loop-c-init g c =
 
 pub bounds-in_first-c : goal.bounds-in_first-c
 bounds-in_first-c g c =
-    let x = c.args.self.now.register.now in
     let steps = c.in-Some.ensures.steps in
-    omega (arith, comes_within (g.R.Register.network x) _ _ _ _ _ c.loop-c.invariant.0 steps.0 steps.1, (g.R.Register.proper x).few_circuits)
+    comes_low _ _ _ _ _ _ c.loop-c.invariant.0 steps.0 steps.1 (g.R.Register.proper c.args.self.now.register.now)
+
+pub bounds-in_second-c : goal.bounds-in_second-c
+bounds-in_second-c g c =
+    let steps = c.in-Some.ensures.steps in
+    comes_low _ _ _ _ _ _ c.loop-c.invariant.0 steps.0 steps.1 (g.R.Register.proper c.args.self.now.register.now)
 
 pub loop-c-preserved-then-shared : goal.loop-c-preserved-then-shared
 loop-c-preserved-then-shared g c =

@@ -1,10 +1,7 @@
 use Rattle.std.proofs.Common.{◌≡◌, ◌+◌, ◌-◌, ◌^◌, ◌<◌, ◌≤◌, subst, arith}
-use Rattle.plan.proofs.Rates.{width_up, width_down, between_all, raised, lowered, searched}
+use Rattle.plan.proofs.Rates.{width_up, width_down, raised, lowered, searched}
 use Rattle.plan.proofs.question.Question.widest_within.Goals as goal
 use Rattle.plan.proofs.question.Question.widest_within.Goals.{in-Ok, in-Err}
-
-pub loop-init : goal.loop-init
-loop-init g c = ((omega arith, omega arith, omega arith), λ keeps. between_all _ _ _ _ _ _ _ _)
 
 pub loop-preserved : goal.loop-preserved
 loop-preserved g c =
