@@ -1,10 +1,10 @@
 -- From a plan to the answer of a call.
-use Rattle.std.proofs.Common.{◌≡◌, ℕ, ◌<◌, ◌≤◌, ◌⊎◌, List, [], ◌∷◌, ◌++◌, map, length, take, drop, vec_items, vec_len, Ok, Err, Result, sym, ap, ◌∙◌, subst, inl, inr, arith, length-append, length-drop}
+use Rattle.std.proofs.Common.{◌≡◌, ℕ, ◌<◌, ◌≤◌, ◌⊎◌, List, [], ◌∷◌, ◌++◌, length, take, drop, vec_items, vec_len, Ok, Err, Result, sym, ap, ◌∙◌, subst, inl, inr, arith, length-append, length-drop}
 use Rattle.std.proofs.lemmas.List.{length-map, take-append-le, take_all}
 use Rattle.std.proofs.lemmas.List.Prefix.{front_rest}
 use Rattle.network.specs.Network.{Network}
 use Rattle.scale.specs.Measure.{Measure, Lawful}
-use Rattle.promise.specs.Ledger.{Feed, Ledger}
+use Rattle.promise.specs.Ledger.{Ledger}
 use Rattle.network.specs.declared.refusal.Refusal.{Refusal}
 use Rattle.network.specs.Refusals.{number_of}
 use Rattle.network.specs.Checks.{Check, check, Passed}
@@ -12,7 +12,7 @@ use Rattle.promise.specs.declared.Mode.{Mode}
 use Rattle.promise.specs.Promise.{BadPlaces, BadRate, NoPair, NoneWithin, Stands, feed_number, checks, plan, book}
 use Rattle.promise.proofs.Plans.{not_no_pair, not_none_within}
 use Rattle.tables.specs.declared.rows.Tables.{Tables}
-use Rattle.tables.specs.Standing.{ledger_of, feed_of, notice_of, route_of}
+use Rattle.tables.specs.Standing.{ledger_of, feed_of, route_of}
 use Rattle.plan.specs.declared.plan.Plan.{Plan}
 use Rattle.plan.specs.Planned.{SafestWithin}
 use Rattle.book.specs.Answered.{Checked}
@@ -55,7 +55,3 @@ module _ {V : Type 0} (s : Measure V) (lawful : Lawful s) (n : Network) (l : Led
 -- as many feeds stand in the ledger as in the tables
 pub feeds_long : (t : Tables) → length (ledger_of t).feeds ≡ vec_len t.feeds
 feeds_long t = omega (arith, length-map (vec_items t.feeds) feed_of, t.feeds.ok.0)
-
--- the ledger after a booking
-pub booked : (t t' : Tables) (f : Feed) → (ledger_of t').feeds ≡ (ledger_of t).feeds ++ f ∷ [] → t'.notices ≡ t.notices → ledger_of t' ≡ record { feeds = (ledger_of t).feeds ++ f ∷ []; notices = (ledger_of t).notices }
-booked t t' f e d = λ j. record { feeds = e j; notices = map notice_of (vec_items (d j)) }

@@ -13,8 +13,7 @@ fn write_route(route: &Route, list: &mut [u16])
     requires { 127 ≤ length list.old }
     ensures { list.new ≡ route_of route.now ++ drop route.now.length list.old }
 {
-    let n = route.length;
-    list[0..n].copy_from_slice(&route.circuits[0..n]);
+    list[..route.length].copy_from_slice(route.as_slice());
 }
 
 // Writes both routes, and tells the pair.

@@ -55,6 +55,7 @@ pub fn answer<R: Register + Drop>(
     ensures { Asked (R.Register.network book.now.register) ask.from ask.to ask.rate ask.mode output.old output.new (order_status result) }
 {
     let room = room_for(output.len());
+    // Room for the longest routes: only the book itself may want memory.
     let mut first = [0; MAX_ROUTE];
     let mut second = [0; MAX_ROUTE];
     answer_by(book, ask, &mut first[0..room], &mut second[0..room], output)

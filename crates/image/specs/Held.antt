@@ -10,7 +10,7 @@ use Rattle.image.specs.declared.layout.Layout.{Layout}
 use Rattle.network.specs.declared.register.Circuit.{Circuit}
 use Rattle.network.specs.Network.{Network, Sound, Proper, circuit, no_circuit}
 use Rattle.network.specs.Routes.{Each, each_at}
-use Rattle.image_format.specs.Image.{Different, Records, Image}
+use Rattle.image_format.specs.Image.{Name, Different, Records, Image}
 use Rattle.image.specs.Layout.{name_from, place_offset, names_in, circuit_from, circuits_in, network_in, end_of, ImageOf, Scanned}
 
 -- the image that a register holds is that of its places and circuits, which stand as the layout says
@@ -41,8 +41,14 @@ different_prop : (xs : List (List ℕ)) → IsProp (Different xs)
 different_prop [] = Unit-prop
 different_prop (x ∷ xs) = ×_prop ¬_prop (different_prop xs)
 
+sound_prop : (n : ℕ) (c : Circuit) → IsProp (Sound n c)
+sound_prop n c = Prim.hlevel props
+
+name_prop : (name : List ℕ) → IsProp (Name name)
+name_prop name = Prim.hlevel props
+
 records_prop : (names : List (List ℕ)) (circuits : List Circuit) → IsProp (Records names circuits)
-records_prop names circuits = Prim.hlevel (props, each_prop, different_prop)
+records_prop names circuits = Prim.hlevel (props, each_prop, different_prop, sound_prop, name_prop)
 
 image_prop : (bytes : List ℕ) (names : List (List ℕ)) (circuits : List Circuit) → IsProp (Image bytes names circuits)
 image_prop bytes names circuits = Prim.hlevel (props, records_prop)

@@ -41,16 +41,6 @@ fn put_end(image: &mut Vec<u8>, count: u16) -> Result<(), AllocError> {
     image.extend_from_slice(&count.to_be_bytes())
 }
 
-// A circuit by its figures.
-fn circuit(from: u16, to: u16, bandwidth: u32, cost: u32) -> Circuit {
-    Circuit {
-        from,
-        to,
-        bandwidth,
-        cost,
-    }
-}
-
 // So many places, each by its number as a name of two bytes, and so many circuits.
 fn full(heap: Global, places: u16, circuits: u16) -> Result<Vec<u8>, AllocError> {
     let mut image = Vec::new(heap);
@@ -58,7 +48,7 @@ fn full(heap: Global, places: u16, circuits: u16) -> Result<Vec<u8>, AllocError>
         put_place(&mut image, &place.to_be_bytes())?;
     }
     for _ in 0..circuits {
-        put_circuit(&mut image, circuit(0, 1, 64_000_000, 1_000_000))?;
+        put_circuit(&mut image, Circuit::new(0, 1, 64_000_000, 1_000_000))?;
     }
     put_end(&mut image, places.wrapping_add(circuits))?;
     Ok(image)
@@ -118,14 +108,14 @@ fn names(rt: &HostRuntime) -> anyhow::Result<()> {
 fn circuits(rt: &HostRuntime) -> anyhow::Result<()> {
     let heap = rt.alloc();
     let cases = [
-        ("an end that is no place", circuit(0, 2, 1, 0)),
-        ("a start that is no place", circuit(2, 0, 1, 0)),
-        ("both ends the same", circuit(1, 1, 1, 0)),
-        ("bandwidth 0", circuit(0, 1, 0, 0)),
-        ("bandwidth 1, cost 0", circuit(0, 1, 1, 0)),
-        ("bandwidth 64,000,001", circuit(0, 1, 64_000_001, 0)),
-        ("cost 1,000,001", circuit(0, 1, 1, 1_000_001)),
-        ("bad ends and a bad figure", circuit(5, 5, 0, 0)),
+        ("an end that is no place", Circuit::new(0, 2, 1, 0)),
+        ("a start that is no place", Circuit::new(2, 0, 1, 0)),
+        ("both ends the same", Circuit::new(1, 1, 1, 0)),
+        ("bandwidth 0", Circuit::new(0, 1, 0, 0)),
+        ("bandwidth 1, cost 0", Circuit::new(0, 1, 1, 0)),
+        ("bandwidth 64,000,001", Circuit::new(0, 1, 64_000_001, 0)),
+        ("cost 1,000,001", Circuit::new(0, 1, 1, 1_000_001)),
+        ("bad ends and a bad figure", Circuit::new(5, 5, 0, 0)),
     ];
     for (asked, circuit) in cases {
         load(rt, asked, &one_circuit(heap, circuit)?)?;

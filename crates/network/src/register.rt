@@ -27,6 +27,17 @@ pub struct Circuit {
 }
 
 impl Circuit {
+    pub const fn new(from: u16, to: u16, bandwidth: u32, cost: u32) -> Circuit
+        ensures { result ≡ record { from = from; to = to; bandwidth = bandwidth; cost = cost } }
+    {
+        Circuit {
+            from,
+            to,
+            bandwidth,
+            cost,
+        }
+    }
+
     // Whether an end is no place, or both ends are equal.
     pub fn bad_ends(self, places: u16) -> bool
         ensures { Decides result (BadEnds places self) }

@@ -25,6 +25,7 @@ impl<'a, R: Register> Question<'a, R> {
     {
         let arcs = self.arcs(rate);
         let arcs = &arcs[0..self.register.circuits() as usize];
+        // Room for the longest routes, as a feed keeps them: no call on a book may want memory.
         let mut first = [0; MAX_ROUTE];
         let mut second = [0; MAX_ROUTE];
         let (n, m) = search::pair(

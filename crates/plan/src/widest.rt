@@ -31,7 +31,7 @@ impl<'a, R: Register> Question<'a, R> {
     }
 
     // Whether a rate can be had within the limit is known of `low` and below, and of `high` and above. Each turn halves the
-    // rates between them, so that twenty leave none.
+    // rates between them, so that twenty leave none; the turns are counted, so that the loop shows how many searches it makes.
     pub fn widest_within<S: Scale>(&self, limit: S::Value) -> Result<(u32, Plan<S::Value>), Refusal>
         ensures { Keeps (R.network self.now.register.now) self.now.tables.now → WidestWithin S.measure (R.network self.now.register.now) (ledger_of self.now.tables.now) self.now.from self.now.to self.now.mode limit result }
     {

@@ -13,5 +13,4 @@ pub enum Mode {
 // A pair of routes has a bandwidth, and where its circuits are open it can carry just the rates up to it.
 pub fn pair_bandwidth_stands()
     ensures { CarriesUpToBandwidth }
-{
-}
+{}

@@ -45,6 +45,7 @@ fn play<R: Register + Drop, S: Scale + Drop>(
     ensures told { IfOk result (λ told. IfOk told (λ reply. Answered S.Scale.measure (R.Register.network book.old.register) book.old.tables book.new.tables (call_of order) (answer_of (Ok reply)))) }
     ensures refused { IfErr result (λ refusal. Answered S.Scale.measure (R.Register.network book.old.register) book.old.tables book.new.tables (call_of order) (answer_of (Err refusal))) }
 {
+    // The lists that a call on a book writes to: no such call may want memory.
     let mut first = [0; MAX_ROUTE];
     let mut second = [0; MAX_ROUTE];
     match order {

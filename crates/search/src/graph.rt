@@ -79,29 +79,20 @@ impl<'a> Graph<'a> {
         Graph { arcs, out, into }
     }
 
-    // The arcs that start at a place.
-    pub(crate) fn leaving(&self, place: usize) -> ArcsAt<'_>
+    // The arcs that start at a place, or those that end there.
+    pub(crate) fn at(&self, by: By, place: usize) -> ArcsAt<'_>
         requires { place < 128 }
-        ensures { arcs_left result ≡ arcs_at self.now.arcs.now Start place 0 }
+        ensures { arcs_left result ≡ arcs_at self.now.arcs.now by place 0 }
     {
+        let chains = match by {
+            By::Start => self.out,
+            By::End => self.into,
+        };
         ArcsAt {
             arcs: self.arcs,
-            chains: self.out,
+            chains,
             place,
-            at: self.out.first[place] as usize,
-        }
-    }
-
-    // The arcs that end at a place.
-    pub(crate) fn entering(&self, place: usize) -> ArcsAt<'_>
-        requires { place < 128 }
-        ensures { arcs_left result ≡ arcs_at self.now.arcs.now End place 0 }
-    {
-        ArcsAt {
-            arcs: self.arcs,
-            chains: self.into,
-            place,
-            at: self.into.first[place] as usize,
+            at: chains.first[place] as usize,
         }
     }
 }

@@ -4,7 +4,7 @@ ghost use Rattle.search.specs.Graph.{Refused};
 ghost use Rattle.search.specs.Flows.{Carries, Sound};
 ghost use Rattle.search.specs.Trees.{Free, Never, Reached, Roll};
 
-use crate::graph::Graph;
+use crate::graph::{By, Graph};
 use crate::{Ends, MAX_ARCS, MAX_PLACES};
 
 // The lanes of an arc that both routes may use.
@@ -71,7 +71,7 @@ impl Seen {
         ensures more { More graph.now.arcs.now flow.now (Unused graph.now.arcs.now flow.now) self.old self.new }
         ensures spent { SpentForth graph.now.arcs.now flow.now self.new place }
     {
-        for (c, arc) in graph.leaving(place) {
+        for (c, arc) in graph.at(By::Start, place) {
             if arc.lanes > 0 && flow[c] == 0 {
                 self.see(arc.to as usize, c);
             }
@@ -85,7 +85,7 @@ impl Seen {
         ensures more { More graph.now.arcs.now flow.now Never self.old self.new }
         ensures spent { SpentBack graph.now.arcs.now flow.now self.new place }
     {
-        for (c, arc) in graph.entering(place) {
+        for (c, arc) in graph.at(By::End, place) {
             if flow[c] > 0 {
                 self.see(arc.from as usize, c);
             }
@@ -109,7 +109,7 @@ impl Seen {
         ensures { MatchOption result (Passed graph.now.arcs.now self.now place) (λ c. Leaves graph.now.arcs.now self.now c) }
     {
         let (c, _) = graph
-            .leaving(place)
+            .at(By::Start, place)
             .find(|(_, arc)| arc.lanes > 0 && !self.has(arc.to as usize))?;
         Some(c)
     }

@@ -1,9 +1,9 @@
 -- A limit by tally is cut at its first colon.
-use Rattle.std.specs.Prelude.{◌≡◌, ℕ, ◌+◌, ◌<◌, List, ◌∷◌, ◌++◌, length, take, drop, slice_index, slice_index_or, refl}
+use Rattle.std.specs.Prelude.{◌≡◌, ℕ, ◌+◌, ◌-◌, ◌<◌, List, ◌∷◌, ◌++◌, length, take, drop, slice_index, slice_index_or, refl}
 use Rattle.std.proofs.Common.{sym, ap, subst, ◌∙◌, inl, inr, arith, length-append}
-use Rattle.std.specs.List.{AllByRecursion}
+use Rattle.std.specs.List.{between, AllByRecursion}
 use Rattle.std.proofs.ByRecursion.{All-get_or}
-use Rattle.std.proofs.lemmas.List.{take-append-drop, drop_more, take_at, drop_at, get_or_at, get_or_append_left}
+use Rattle.std.proofs.lemmas.List.{take-append-drop, drop_more, take_at, drop_at, get_or_at, get_or_append_left, take_rest}
 use Rattle.std.proofs.lemmas.Bool.{cases_order}
 use Rattle.words.specs.Figures.{Digit, Numeral, FirstColon, TallyLimit, Single}
 use Rattle.words.specs.Decimals.{numeral_single}
@@ -48,3 +48,10 @@ tally_single word x y p q =
     let e : x.0 ≡ y.0 = numeral_single 16 _ _ _ s.0 t.0 in
     let f : x.1 ≡ y.1 = numeral_single 32 _ _ _ s.1 t.1 in
     ap (λ n. (n, x.1)) e ∙ ap (λ n. (y.0, n)) f
+
+-- the parts before and after a place, cut as ranges
+pub front_cut : {X : Type 0} (word : List X) (i : ℕ) → between 0 i word ≡ take i word
+front_cut word i = let e : i - 0 ≡ i = omega arith in ap (λ n. take n word) e
+
+pub back_cut : (word : List ℕ) (i : ℕ) → between i (length word) word ≡ drop i word
+back_cut word i = take_rest word i

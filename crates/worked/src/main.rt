@@ -11,23 +11,14 @@ use promise::Mode;
 use scale::Total;
 use std::io;
 
-const fn circuit(from: u16, to: u16, bandwidth: u32, cost: u32) -> Circuit {
-    Circuit {
-        from,
-        to,
-        bandwidth,
-        cost,
-    }
-}
-
 // The circuits of the worked network, between four places.
 fn worked_circuits() -> [Circuit; 5] {
     [
-        circuit(0, 1, 40_000, 3),
-        circuit(0, 2, 30_000, 5),
-        circuit(1, 3, 20_000, 2),
-        circuit(2, 3, 50_000, 4),
-        circuit(1, 2, 25_000, 1),
+        Circuit::new(0, 1, 40_000, 3),
+        Circuit::new(0, 2, 30_000, 5),
+        Circuit::new(1, 3, 20_000, 2),
+        Circuit::new(2, 3, 50_000, 4),
+        Circuit::new(1, 2, 25_000, 1),
     ]
 }
 
@@ -79,6 +70,7 @@ fn booking(rt: &HostRuntime) -> anyhow::Result<()> {
         .load(4, &circuits)
         .map_err(|_| anyhow!("the worked network is refused"))?;
     let mut book = Book::new(rt.alloc(), register, Total)?;
+    // The lists that the book writes to.
     let mut first = [0; 127];
     let mut second = [0; 127];
     let ask = Ask {
@@ -107,7 +99,7 @@ fn booking(rt: &HostRuntime) -> anyhow::Result<()> {
 
 // The widest pair over one circuit, in 1+1 mode with its cost as the limit.
 fn one_circuit(rt: &HostRuntime, asked: &str, bandwidth: u32) -> anyhow::Result<()> {
-    let circuits = [circuit(0, 1, bandwidth, 5)];
+    let circuits = [Circuit::new(0, 1, bandwidth, 5)];
     let mut register = TableRegister::empty();
     register
         .load(2, &circuits)

@@ -4,30 +4,24 @@ ghost use Rattle.worked_lines.specs.Further.{FurtherLines, RouteLines, ScaleLine
 
 pub fn worked_lines_hold()
     ensures { WorkedLines }
-{
-}
+{}
 
 pub fn only_these_hold()
     ensures { OnlyThese }
-{
-}
+{}
 
 pub fn further_lines_hold()
     ensures { FurtherLines }
-{
-}
+{}
 
 pub fn route_lines_hold()
     ensures { RouteLines }
-{
-}
+{}
 
 pub fn scale_lines_hold()
     ensures { ScaleLines }
-{
-}
+{}
 
 pub fn run_lines_hold()
     ensures { RunLines }
-{
-}
+{}

@@ -6,7 +6,7 @@ use Rattle.search.proofs.spread.Seen.go_back.Goals as goal
 
 pub loop-c-init : goal.loop-c-init
 loop-c-init c =
-    spread_none _ _ _ _ _ _ _ _ _ (ap arcs_left c.into_iter-c-iterator.ensures.into_iter_gives ∙ c.entering-c-items.ensures)
+    spread_none _ _ _ _ _ _ _ _ _ (ap arcs_left c.into_iter-c-iterator.ensures.into_iter_gives ∙ c.at-c-items.ensures)
 
 pub loop-c-preserved-then-flow-c-gt0 : goal.loop-c-preserved-then-flow-c-gt0
 loop-c-preserved-then-flow-c-gt0 c =

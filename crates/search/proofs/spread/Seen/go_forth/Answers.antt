@@ -8,7 +8,7 @@ use Rattle.search.proofs.spread.Seen.go_forth.Goals.{else-arc-gt0-via-then-arc-g
 
 pub loop-c-init : goal.loop-c-init
 loop-c-init c =
-    spread_none _ _ _ _ _ _ _ _ _ (ap arcs_left c.into_iter-c-iterator.ensures.into_iter_gives ∙ c.leaving-c-items.ensures)
+    spread_none _ _ _ _ _ _ _ _ _ (ap arcs_left c.into_iter-c-iterator.ensures.into_iter_gives ∙ c.at-c-items.ensures)
 
 pub loop-c-preserved-then-flow-c-eq0 : goal.loop-c-preserved-then-flow-c-eq0
 loop-c-preserved-then-flow-c-eq0 c =

@@ -15,7 +15,7 @@ pub find-requires-clause-callable : goal.find-requires-clause-callable
 find-requires-clause-callable c =
     let g = c.args.graph.now in
     serves_from_places
-    (YieldsList-from_first (λ x. x) arcs_left _ c.leaving.ensures)
+    (YieldsList-from_first (λ x. x) arcs_left _ c.at.ensures)
     (λ x q k. search (rules, tests))
     (λ x k l e.
     let at = found_at g.arcs.now Start c.args.place k x l (sym e) in
@@ -27,7 +27,7 @@ returns-in_err-c c =
     let rank = c.args.self.now.rank in
     let passes : ℕ × Arc → Type 0 = λ x. 0 < x.1.lanes → 0 < get_or rank x.1.to 0 in
     let none =
-    first_from_find c.find.new.self _ None (λ x. (0 < x.1.lanes) × (get_or rank x.1.to 0 ≡ 0)) passes c.in_err-c.ensures.ran (YieldsList-from_first (λ x. x) arcs_left _ c.leaving.ensures) (λ x q k. search (rules, tests)) (λ x q k. search (rules, tests)) in
+    first_from_find c.find.new.self _ None (λ x. (0 < x.1.lanes) × (get_or rank x.1.to 0 ≡ 0)) passes c.in_err-c.ensures.ran (YieldsList-from_first (λ x. x) arcs_left _ c.at.ensures) (λ x q k. search (rules, tests)) (λ x q k. search (rules, tests)) in
     rw c.from_residual.ensures (each_at c.args.graph.now.arcs.now Start c.args.place passes (All-from_all_within passes _ none))
 
 pub returns : goal.returns
@@ -35,7 +35,7 @@ returns c =
     let s = c.args.self.now in
     let x : ℕ × Arc = (c.in_ok-c.c, c.in_ok-c.field-0-1) in
     let first =
-    first_from_find c.find.new.self _ (Some x) (λ x. (0 < x.1.lanes) × (get_or s.rank x.1.to 0 ≡ 0)) (λ x. 0 < x.1.lanes → 0 < get_or s.rank x.1.to 0) c.in_ok-c.ensures.ran (YieldsList-from_first (λ x. x) arcs_left _ c.leaving.ensures) (λ x q k. search (rules, tests)) (λ x q k. search (rules, tests)) in
+    first_from_find c.find.new.self _ (Some x) (λ x. (0 < x.1.lanes) × (get_or s.rank x.1.to 0 ≡ 0)) (λ x. 0 < x.1.lanes → 0 < get_or s.rank x.1.to 0) c.in_ok-c.ensures.ran (YieldsList-from_first (λ x. x) arcs_left _ c.at.ensures) (λ x q k. search (rules, tests)) (λ x q k. search (rules, tests)) in
     let at = found_at c.args.graph.now.arcs.now Start c.args.place first.1 x first.2 (first.3 x) in
     record {
       is = at.is;
