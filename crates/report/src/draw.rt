@@ -91,8 +91,8 @@ impl<'a> Chart<'a> {
         Some((number, self.register.circuit(u32::from(number))?))
     }
 
-    // One route by place names; = stands for a shared circuit. Written straight out, as the lists and charts below: for `Display` each
-    // would want a struct of its arguments.
+    // One route by place names; = stands for a shared circuit. Written straight out, as the lists and charts below: for
+    // `Display` each would want a struct of its arguments.
     fn write_route<W: Write>(self, last: Last<'_>, route: &[u16], out: &mut W) -> io::Result<()> {
         let mut legs = route
             .iter()
