@@ -8,7 +8,7 @@ use crate::answer::Pair;
 use plan::Plan;
 use tables::Route;
 
-// Writes the route to the start of the list.
+// Writes the route to the start of the list, a caller's of any length from 127 on.
 fn write_route(route: &Route, list: &mut [u16])
     requires { 127 ≤ length list.old }
     ensures { list.new ≡ route_of route.now ++ drop route.now.length list.old }

@@ -3,6 +3,7 @@ ghost use Rattle.std.specs.Prelude.{◌≡◌, ◌+◌, ◌*◌, ◌≤◌, leng
 ghost use Rattle.image_format.specs.Image.{be16, be32};
 ghost use Rattle.host.specs.Layout.{route_bytes, answer_bytes, with_bytes, led_by};
 
+// Bytes at an offset: the layout is the C header's.
 fn put(output: &mut [u8], at: usize, bytes: &[u8])
     requires { at + length bytes.now ≤ length output.old }
     ensures { output.new ≡ with_bytes output.old at bytes.now }

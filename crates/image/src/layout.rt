@@ -76,7 +76,7 @@ impl<'a> Scan<'a> {
         ensures { IsTrue result ↔ Repeats name.now (names_in self.now.image.now self.now.layout.places) }
     {
         let mut next = 0;
-        // These nested loops left by a label are asked for (docs/DECISIONS.md, "Language forms").
+        // Loops over places and name bytes, left by a label at the first repeat: a form that the project keeps (docs/DECISIONS.md).
         'earlier: for _ in 0..self.layout.places {
             let other = read_name(self.image, next);
             next = after_place(self.image, next);

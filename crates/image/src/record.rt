@@ -47,6 +47,7 @@ impl<'a> Iterator for Records<'a> {
 
     ghost remaining = { λ s. at_most (s.register.layout.places + s.register.layout.circuits + 1 - s.given) };
 
+    // It counts by hand, since it goes through three kinds of records and an image has no list of any.
     #[tactic(auto, using(crate::proofs::Offsets::within, crate::specs::Held::circuit_count, crate::proofs::Telling::telling))]
     fn next(&mut self) -> Option<Record<'a>> {
         let ImageRegister { image, layout } = self.register;

@@ -1,7 +1,7 @@
 -- A loop over all circuits of a register: those told so far, the one that comes, and those still to come. Assumes nothing.
-use Rattle.std.proofs.Common.{◌≡◌, ◌<◌, List, [], ◌∷◌, ◌++◌, length, subst, ap, arith}
+use Rattle.std.proofs.Common.{◌≡◌, ◌<◌, List, ◌∷◌, ◌++◌, length, subst, ap, arith}
 use Rattle.std.proofs.Math.Seq.{get_or-append_seam}
-use Rattle.std.proofs.lemmas.List.{append_assoc, length-append}
+use Rattle.std.proofs.lemmas.List.{length-append}
 use Rattle.network.specs.declared.register.Circuit.{Circuit}
 use Rattle.network.specs.Network.{Network, Sound, Proper, circuit, no_circuit}
 
@@ -15,7 +15,3 @@ told_next n told rest x e = rw (← e) (get_or-append_seam told x rest no_circui
 -- and it is sound
 pub told_sound : (n : Network) → Proper n → (told rest : List Circuit) (x : Circuit) → told ++ x ∷ rest ≡ n.circuits → Sound n.places x
 told_sound n p told rest x e = subst (Sound n.places) (told_next n told rest x e) (p.each (length told) (told_within n told rest x e))
-
--- once it is told, it stands behind the others
-pub told_more : (told rest before : List Circuit) (x : Circuit) → before ≡ x ∷ rest → (all : List Circuit) → told ++ before ≡ all → (told ++ x ∷ []) ++ rest ≡ all
-told_more told rest before x e all f = rw (append_assoc, ← e) f

@@ -27,6 +27,7 @@ pub enum Refusal {
 }
 
 impl Refusal {
+    // By this name, not `From`: the rules speak of a refusal's number and its word.
     pub fn number(self) -> u8
         ensures { result ≡ number_of self }
     {

@@ -1,5 +1,5 @@
 // A register of circuits: what it means, and what it tells.
-ghost use Rattle.std.specs.Prelude.{◌≡◌, ◌<◌, ◌≤◌, length, MatchOption, MatchResult, Decides};
+ghost use Rattle.std.specs.Prelude.{◌≡◌, ◌<◌, ◌≤◌, length, MatchOption, MatchResult, IsTrue, ◌↔◌};
 ghost use Rattle.network.specs.Network.{Network, BadEnds, BadFigures, Proper, Sound, circuit as circuit_of};
 ghost use Rattle.network.specs.Checks.{First};
 ghost use Rattle.network.specs.Refusals.{number_of};
@@ -40,14 +40,14 @@ impl Circuit {
 
     // Whether an end is no place, or both ends are equal.
     pub fn bad_ends(self, places: u16) -> bool
-        ensures { Decides result (BadEnds places self) }
+        ensures { IsTrue result ↔ BadEnds places self }
     {
         self.from >= places || self.to >= places || self.from == self.to
     }
 
     // Whether bandwidth or cost is out of its bounds.
     pub fn bad_figures(self) -> bool
-        ensures { Decides result (BadFigures self) }
+        ensures { IsTrue result ↔ BadFigures self }
     {
         self.bandwidth < 1 || self.bandwidth > MOST_BANDWIDTH || self.cost > MOST_COST
     }

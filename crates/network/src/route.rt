@@ -6,8 +6,8 @@ ghost use Rattle.network.specs.Round.{RoundIsNoRoute};
 use super::refusal::Refusal;
 
 // The route of fewer circuits, the first where both hold as many, as a part of the caller's own list.
-// A length beyond its list is refused. The lengths stand beside the lists, since a book writes routes into the caller's own lists
-// and answers how long they are.
+// A length beyond its list is refused. The lengths stand beside the lists, since a book writes routes to the start of its
+// caller's lists, and answers how long they are.
 pub fn main_route<'a>(
     first: &'a [u16],
     first_length: usize,

@@ -54,6 +54,7 @@ impl<'a, R: Register> Question<'a, R> {
             to: 0,
             lanes: 0,
         }; MAX_ARCS];
+        // By number: three zipped lists would read no plainer. An array and a count, since no call may want memory.
         for (c, circuit) in Circuits::of(self.register).enumerate() {
             arcs[c] = self.arc_of(c, circuit, closed[c], rate);
         }

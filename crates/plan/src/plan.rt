@@ -54,6 +54,7 @@ impl<'a, R: Register> Question<'a, R> {
         let in_first = marks(first);
         let in_second = marks(second);
         let mut cost = S::zero();
+        // By number: three zipped lists would read no plainer.
         for (c, circuit) in Circuits::of(self.register).enumerate() {
             let shared = in_first[c] & in_second[c];
             if shared {

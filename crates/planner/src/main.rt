@@ -10,7 +10,6 @@ use network::LoadRefusal;
 use report::Printed;
 use scale::{Scale, Tally, Total, Worst};
 use std::io::{BufWriter, Read, Write};
-use std::process::ExitCode;
 use std::{env, fs};
 use words::Limit;
 
@@ -67,7 +66,7 @@ fn list(rt: &HostRuntime, register: ImageRegister<'_>) -> anyhow::Result<()> {
 }
 
 // Lists the image, or plays orders on it by the scale of that name.
-fn by_name(rt: &HostRuntime, word: &str, image: &[u8]) -> anyhow::Result<ExitCode> {
+fn by_name(rt: &HostRuntime, word: &str, image: &[u8]) -> anyhow::Result<()> {
     let register = match load(image) {
         Ok(register) => register,
         Err(refusal) => {
@@ -76,25 +75,24 @@ fn by_name(rt: &HostRuntime, word: &str, image: &[u8]) -> anyhow::Result<ExitCod
         }
     };
     match word {
-        "list" => list(rt, register)?,
-        "total" => serve(rt, Total, register)?,
-        "worst" => serve(rt, Worst, register)?,
-        "tally" => serve(rt, Tally, register)?,
+        "list" => list(rt, register),
+        "total" => serve(rt, Total, register),
+        "worst" => serve(rt, Worst, register),
+        "tally" => serve(rt, Tally, register),
         _ => {
             eprintln!(rt; "planner: {word} is no scale, expected total, worst, tally or list")?;
-            return Ok(ExitCode::FAILURE);
+            bail!("no such scale")
         }
     }
-    Ok(ExitCode::SUCCESS)
 }
 
-fn main(rt: HostRuntime) -> anyhow::Result<ExitCode> {
+fn main(rt: HostRuntime) -> anyhow::Result<()> {
     let mut args = env::args(&rt)?.skip(1);
     let word = args.next();
     let word = word.as_deref().unwrap_or("total");
     if word == "--help" {
         println!(rt; "{HELP}")?;
-        return Ok(ExitCode::SUCCESS);
+        return Ok(());
     }
     let Some(path) = args.next() else {
         return by_name(&rt, word, &worked::IMAGE);
@@ -103,7 +101,7 @@ fn main(rt: HostRuntime) -> anyhow::Result<ExitCode> {
         Ok(image) => by_name(&rt, word, &image),
         Err(error) => {
             eprintln!(rt; "planner: cannot read {path}: {error}")?;
-            Ok(ExitCode::FAILURE)
+            bail!("no image")
         }
     }
 }

@@ -1,7 +1,7 @@
 // A register that is not the network crate's own, beside a table, read by code that serves any register.
 #![tactic(auto)]
 
-ghost use Rattle.std.specs.Prelude.{◌≡◌, Ok, Err};
+ghost use Rattle.std.specs.Prelude.{◌≡◌, MatchResult};
 ghost use Rattle.network.specs.Refusals.{number_of};
 ghost use Rattle.network.specs.Table.{table, Refused};
 ghost use Rattle.registers_test.specs.Constant.{constant, constant_proper, all_bandwidth};
@@ -52,7 +52,7 @@ pub fn total_bandwidth<R: Register>(register: &R) -> u64
 
 // The same of a table in the caller's memory, where it is one.
 pub fn table_bandwidth(places: u32, circuits: &[Circuit]) -> Result<u64, LoadRefusal>
-    ensures { elim result [ Ok total ↦ total ≡ all_bandwidth (table places circuits.now) | Err e ↦ Refused (table places circuits.now) (number_of e.refusal) e.at ] }
+    ensures { MatchResult result (λ total. total ≡ all_bandwidth (table places circuits.now)) (λ e. Refused (table places circuits.now) (number_of e.refusal) e.at) }
 {
     let mut table = TableRegister::empty();
     table.load(places, circuits)?;

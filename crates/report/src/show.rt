@@ -9,8 +9,8 @@ pub trait Printed: Scale {
     fn write_cost<W: Write>(cost: Self::Value, out: &mut W) -> io::Result<()>;
 }
 
-// A scale whose values are numbers of 32 bits. Each crate that uses such a mark has its own: only of its own does it know that
-// the tally has none.
+// A scale whose values are numbers of 32 bits. The mark is this crate's own, since only so is it known that the tally has
+// none.
 pub trait OneNumber: Scale<Value = u32> {}
 
 impl OneNumber for Total {}

@@ -69,14 +69,6 @@ module _ (g : List Arc) (f : List ℕ) where
     unused_free : (c : ℕ) → Unused g f c → Free g f a b c
     unused_free c u = record { usable = u.usable; room = inl u.idle }
 
-    pub explored_new : (s : Seen) → s.count ≡ 1 → IsSeen s a → ((p : ℕ) → IsSeen s p → p ≡ a) → Explored a b s 0 0
-    explored_new s one seen only = record {
-      begun = begun_new (Free g f a b) a s one seen only;
-      forth = first_none _ s;
-      passed = first_none _ s;
-      held_low = omega arith;
-    }
-
     module _ (s t : Seen) (F : ℕ → Type 0) (more : More g f F s t) where
       forth_kept : (p : ℕ) → SpentForth g f s p → SpentForth g f t p
       forth_kept p h c l at u = stays g f F s t more (arc g c).to (h c l at u)

@@ -7,7 +7,6 @@ use Rattle.search.specs.declared.spread.Seen.{Seen}
 use Rattle.search.specs.Graph.{arc}
 use Rattle.search.specs.Trees.{zeros, Roll, Forth, Back, Step, Tree}
 use Rattle.search.specs.Rolls.{IsSeen, Noted, More, OfFirst}
-use Rattle.search.proofs.Walks.{within}
 
 zeros_set : (l : List ℕ) (i x : ℕ) → i < length l → get_or l i 0 ≡ 0 → 0 < x → zeros (set l i x) + 1 ≡ zeros l
 zeros_set [] i x h e p = absurd (omega arith)
@@ -159,30 +158,6 @@ module _ (s : Seen) (p : ℕ) (new : get_or s.rank p 0 ≡ 0) (place : p < 128) 
       order_long = length-set s.order s.count p ∙ s.roll.order_long;
     }
 
-    pub noted_new : (t : Seen) → t.count ≡ s.count + 1 → t.rank ≡ rank → t.via ≡ via → Noted s t p c
-    noted_new t en er ev =
-        let now : (q : ℕ) → get_or t.rank q 0 ≡ get_or rank q 0 = λ q. ap (λ xs. get_or xs q 0) er in
-        let by : (q : ℕ) → get_or t.via q 0 ≡ get_or via q 0 = λ q. ap (λ xs. get_or xs q 0) ev in
-        let via_here : get_or via p 0 ≡ c = get_or-set_same s.via p c 0 (omega (arith, s.roll.via_long)) in
-        let joined : (q : ℕ) → get_or s.rank q 0 ≡ 0 → IsSeen t q → q ≡ p =
-        λ q z h. ⊎_elim (λ e. e) (λ ne. absurd (omega (arith, z, h, now q, there q ne))) (cases_eq q p) in
-        record {
-          seen = omega (arith, now p, here);
-          kept = λ q h. (now q ∙ there q (other q h), by q ∙ get_or-set_other s.via p q c 0 (other q h));
-          new = λ q z h. let e = joined q z h in (e, by q ∙ ap (λ i. get_or via i 0) e ∙ via_here);
-          later = λ q z h. omega (arith, now q, ap (λ i. get_or rank i 0) (joined q z h), here);
-          rises = omega (arith, en);
-        }
-
-pub noted_old : (s : Seen) (p c : ℕ) → IsSeen s p → Noted s s p c
-noted_old s p c seen = record {
-  seen = seen;
-  kept = λ q h. (refl, refl);
-  new = λ q z h. absurd (omega (arith, z, h));
-  later = λ q z h. absurd (omega (arith, z, h));
-  rises = omega arith;
-}
-
 module _ (g : List Arc) (f : List ℕ) (F : ℕ → Type 0) where
   pub more_none : (s : Seen) → More g f F s s
   more_none s = record {
@@ -256,9 +231,6 @@ module _ (g : List Arc) (f : List ℕ) (F : ℕ → Type 0) where
 -- what stands on the roll is seen
 pub on_roll : (s : Seen) (i : ℕ) → i < s.count → IsSeen s (get_or s.order i 0)
 on_roll s i l = omega (arith, s.roll.listed i l)
-
-pub is_place : (s : Seen) (p : ℕ) → IsSeen s p → p < 128
-is_place s p seen = omega (arith, within s.rank p seen, s.roll.rank_long)
 
 -- what is known of the first places of the roll
 module _ (P : ℕ → Type 0) where

@@ -1,14 +1,14 @@
 -- A search goes on from one place along its arcs. Assumes nothing.
-use Rattle.std.proofs.Common.{◌≡◌, ℕ, ◌∙◌, ◌<◌, List, [], ◌∷◌, length, get_or, sym, ap, subst, arith}
+use Rattle.std.proofs.Common.{◌≡◌, ℕ, ◌∙◌, ◌<◌, List, ◌∷◌, get_or, sym, ap, subst, arith}
 use Rattle.search.specs.declared.Arc.{Arc}
 use Rattle.search.specs.declared.spread.Seen.{Seen}
 use Rattle.search.specs.declared.graph.By.{By}
 use Rattle.search.specs.declared.graph.By.TheVariants.{Start, End}
 use Rattle.search.specs.Graph.{arc}
-use Rattle.search.specs.Links.{end_by, arcs_at}
+use Rattle.search.specs.Links.{arcs_at}
 use Rattle.search.specs.Trees.{Never}
 use Rattle.search.specs.Rolls.{IsSeen, Noted, More, Unused}
-use Rattle.search.proofs.Chained.{IsAt, Walked, walked_none, walked_at, walked_more, walked_all}
+use Rattle.search.proofs.Chained.{IsAt, Walked, walked_none, walked_at, walked_more}
 use Rattle.search.proofs.Rolled.{more_none, more_more, more_forth, more_back, stays}
 
 -- from s0 to s each arc at p that is not left and that Goes allows led to a place that is seen
@@ -37,9 +37,6 @@ module _ (g : List Arc) (f : List ℕ) (F : ℕ → Type 0) (by : By) (far : Arc
       more = more_more g f F F s0 s t (λ d h. h) old.more one;
       walked = walked_more g by p _ left next x e (λ d. Goes d → IsSeen t (far (arc g d))) old.walked (λ d h u. stays g f F s t one (far (arc g d)) (h u)) (λ u. subst (λ a. IsSeen t (far a)) spread_at.same seen);
     }
-
-  pub spread_all : (s : Seen) (left : List (ℕ × Arc)) → left ≡ [] → SpreadTo g f F by far Goes s0 s p left → (c : ℕ) → c < length g → end_by by (arc g c) ≡ p → Goes c → IsSeen s (far (arc g c))
-  spread_all s left e old = walked_all g by p _ left e old.walked
 
 -- from s to t a place was seen by an arc x at p
 module _ (g : List Arc) (f : List ℕ) (s t : Seen) (p : ℕ) (x : ℕ × Arc) (seen : IsSeen s p) where

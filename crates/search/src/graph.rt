@@ -7,7 +7,7 @@ ghost use Rattle.search.specs.declared.graph.By.TheVariants.{Start, End};
 
 use crate::{Arc, MAX_ARCS, MAX_PLACES};
 
-// Past every arc: a chain ends here.
+// Past every arc: a chain ends here. A number, not an `Option`: `get` of it finds no arc, which ends the chain with no test.
 const PAST: u16 = 384;
 
 // The end by which arcs are chained.

@@ -11,8 +11,9 @@ use crate::{Ends, MAX_ARCS, MAX_PLACES};
 const BOTH: u8 = 2;
 
 // The places seen so far stand in `order`, the first `count` entries. The rank of a place is where it stands there, from 1
-// on; the rank 0 says that it was not seen. `via` has the arc by which it was seen. Arrays and a count, since no call may
-// want memory.
+// on; the rank 0 says that it was not seen: a number, not an `Option`, since ranks are compared with the count. `via` has the
+// arc by which it was seen. Arrays and a count, since no call may want memory; an `ArrayVec` of the order would hold the same
+// array and count, and `roll` would have to say its length again.
 #[derive(Drop)]
 pub(crate) struct Seen {
     count: usize,

@@ -29,6 +29,7 @@ impl Tables {
         ensures rest { SameButLeft self.old self.new }
     {
         let taken = feed.taken();
+        // By number, since the tables lend a circuit's state by its number.
         for (number, taken) in taken[..self.circuits.len()].iter().enumerate() {
             let circuit = self.circuit_mut(number);
             circuit.left = change(circuit.left, *taken);
@@ -61,6 +62,7 @@ impl Feed {
         let second = marks(&self.second);
         array::from_fn(|c| self.amount(first[c], second[c]))
     }
+
     // What it takes on a circuit, by which of its routes use it.
     fn amount(&self, in_first: bool, in_second: bool) -> u32
         ensures { (c : ℕ) → in_first ≡ uses c (route_of self.now.first) → in_second ≡ uses c (route_of self.now.second)

@@ -11,8 +11,8 @@ pub const MAX_CIRCUITS: usize = 384;
 // At most so many feeds stand, and as many notices.
 pub const MAX_STANDING: usize = 32;
 
-// The circuits of a route, in its order; what stands past its length means nothing. No heap: a feed is `Copy`, and no call
-// on a book may want memory.
+// The circuits of a route, in its order; what stands past its length means nothing. No heap, since no call on a book
+// may want memory, and no `ArrayVec`, since a feed is `Copy`.
 #[derive(Clone, Copy)]
 pub struct Route {
     pub length: usize,

@@ -10,6 +10,7 @@ use network::{Circuit, Refusal, Register, TableRegister};
 use promise::Mode;
 use scale::Total;
 use std::io;
+use tables::MAX_ROUTE;
 
 // The circuits of the worked network, between four places.
 fn worked_circuits() -> [Circuit; 5] {
@@ -71,8 +72,8 @@ fn booking(rt: &HostRuntime) -> anyhow::Result<()> {
         .map_err(|_| anyhow!("the worked network is refused"))?;
     let mut book = Book::new(rt.alloc(), register, Total)?;
     // The lists that the book writes to.
-    let mut first = [0; 127];
-    let mut second = [0; 127];
+    let mut first = [0; MAX_ROUTE];
+    let mut second = [0; MAX_ROUTE];
     let ask = Ask {
         from: 0,
         to: 3,
@@ -105,8 +106,8 @@ fn one_circuit(rt: &HostRuntime, asked: &str, bandwidth: u32) -> anyhow::Result<
         .load(2, &circuits)
         .map_err(|_| anyhow!("the network of one circuit is refused"))?;
     let book = Book::new(rt.alloc(), register, Total)?;
-    let mut first = [0; 127];
-    let mut second = [0; 127];
+    let mut first = [0; MAX_ROUTE];
+    let mut second = [0; MAX_ROUTE];
     let answer = book.widest(0, 1, Mode::OnePlusOne, 5, &mut first, &mut second);
     tell(rt, asked, answer, &first, &second)?;
     Ok(())
