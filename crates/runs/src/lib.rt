@@ -5,12 +5,16 @@ ghost use Rattle.std.specs.Prelude.{◌≡◌, ◌≤◌, length, IfOk, IfErr, O
 ghost use Rattle.promise.specs.Promise.{Run};
 ghost use Rattle.book.specs.Answered.{Answered, planned};
 ghost use Rattle.calls.specs.Calls.{call_of, answer_of, entries};
+ghost use Rattle.runs.specs.Stops.{IfRefused};
+
+mod stop;
 
 use book::{Book, Pair};
 use calls::{Answer, Order, Reply};
-use network::{Refusal, Register};
+use network::Register;
 use scale::Scale;
 use std::alloc::{AllocError, Global};
+use stop::Stop;
 use tables::MAX_ROUTE;
 
 // The pair that was planned, with its routes out of the two lists.
@@ -35,15 +39,15 @@ fn owned<V: Copy>(
     })
 }
 
-// Plays one order. A refusal comes first, since only the routes of a pair want memory.
+// Plays one order.
 fn play<R: Register + Drop, S: Scale + Drop>(
     heap: Global,
     book: &mut Book<R, S>,
     order: Order<S::Value>,
-) -> Result<Result<Reply<S::Value>, AllocError>, Refusal>
+) -> Result<Reply<S::Value>, Stop>
     ensures register { book.new.register ≡ book.old.register }
-    ensures told { IfOk result (λ told. IfOk told (λ reply. Answered S.Scale.measure (R.Register.network book.old.register) book.old.tables book.new.tables (call_of order) (answer_of (Ok reply)))) }
-    ensures refused { IfErr result (λ refusal. Answered S.Scale.measure (R.Register.network book.old.register) book.old.tables book.new.tables (call_of order) (answer_of (Err refusal))) }
+    ensures told { IfOk result (λ reply. Answered S.Scale.measure (R.Register.network book.old.register) book.old.tables book.new.tables (call_of order) (answer_of (Ok reply))) }
+    ensures refused { IfErr result (λ stop. IfRefused stop (λ refusal. Answered S.Scale.measure (R.Register.network book.old.register) book.old.tables book.new.tables (call_of order) (answer_of (Err refusal)))) }
 {
     // The lists that a call on a book writes to: no such call may want memory.
     let mut first = [0; MAX_ROUTE];
@@ -51,7 +55,7 @@ fn play<R: Register + Drop, S: Scale + Drop>(
     match order {
         Order::Safest(ask) => {
             let pair = book.safest(ask, &mut first, &mut second)?;
-            Ok(owned(heap, pair, &first, &second))
+            Ok(owned(heap, pair, &first, &second)?)
         }
         Order::Widest {
             from,
@@ -60,18 +64,27 @@ fn play<R: Register + Drop, S: Scale + Drop>(
             limit,
         } => {
             let pair = book.widest(from, to, mode, limit, &mut first, &mut second)?;
-            Ok(owned(heap, pair, &first, &second))
+            Ok(owned(heap, pair, &first, &second)?)
         }
         Order::Book { feed, ask, limit } => {
             let pair = book.book(feed, ask, limit, &mut first, &mut second)?;
-            Ok(owned(heap, pair, &first, &second))
+            Ok(owned(heap, pair, &first, &second)?)
         }
-        Order::Release { feed } => book.release(feed).and(Ok(Ok(Reply::Done))),
-        Order::Close { notice, circuit } => book.close(notice, circuit).and(Ok(Ok(Reply::Done))),
-        Order::Reopen { notice } => book.reopen(notice).and(Ok(Ok(Reply::Done))),
-        Order::Left { circuit } => Ok(Ok(Reply::Left(book.left(circuit)?))),
-        Order::Open { circuit } => Ok(Ok(Reply::Open(book.is_open(circuit)?))),
-        Order::Uses { feed, circuit } => Ok(Ok(Reply::Uses(book.uses(feed, circuit)?))),
+        Order::Release { feed } => {
+            book.release(feed)?;
+            Ok(Reply::Done)
+        }
+        Order::Close { notice, circuit } => {
+            book.close(notice, circuit)?;
+            Ok(Reply::Done)
+        }
+        Order::Reopen { notice } => {
+            book.reopen(notice)?;
+            Ok(Reply::Done)
+        }
+        Order::Left { circuit } => Ok(Reply::Left(book.left(circuit)?)),
+        Order::Open { circuit } => Ok(Reply::Open(book.is_open(circuit)?)),
+        Order::Uses { feed, circuit } => Ok(Reply::Uses(book.uses(feed, circuit)?)),
     }
 }
 
@@ -88,10 +101,10 @@ pub fn run<R: Register + Drop, S: Scale + Drop>(
     let mut book = Book::new(heap, register, scale)?;
     let mut answers = Vec::with_capacity(heap, orders.len())?;
     for order in orders {
-        // A refusal is an answer too; only a reply may find no memory.
         let answer = match play(heap, &mut book, *order) {
-            Ok(reply) => Ok(reply?),
-            Err(refusal) => Err(refusal),
+            Ok(reply) => Ok(reply),
+            Err(Stop::Refused(refusal)) => Err(refusal),
+            Err(Stop::NoMemory(error)) => return Err(error),
         };
         answers.push(answer)?;
     }

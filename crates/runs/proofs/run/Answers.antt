@@ -4,7 +4,7 @@ use Rattle.book.specs.Answered.{Answered}
 use Rattle.calls.specs.Calls.{call_of, answer_of}
 use Rattle.runs.proofs.Running.{so_far_more}
 use Rattle.runs.proofs.run.Goals as goal
-use Rattle.runs.proofs.run.Goals.{in-Ok+in_ok-reply-in-Ok, in-Err}
+use Rattle.runs.proofs.run.Goals.{in-Ok, in-Err-Refused}
 
 pub loop-order-preserved : goal.loop-order-preserved
 loop-order-preserved g c =
@@ -16,7 +16,7 @@ loop-order-preserved g c =
     let t = c.loop-order.book.tables in
     let t' = c.play.new.book.tables in
     let answered : Answered s (g.R.Register.network c.loop-order.book.register) t t' (call_of o) (answer_of a) =
-    elim c.match-play.branch [ in-Ok+in_ok-reply-in-Ok w ↦ search rules | in-Err w ↦ search rules ] in
+    elim c.match-play.branch [ in-Ok w ↦ search rules | in-Err-Refused w ↦ search rules ] in
     let same : g.R.Register.network c.loop-order.book.register ≡ n = ap g.R.Register.network inv.1 in
     let kept : Answered s n t t' (call_of o) (answer_of a) = subst (λ (m : Network). Answered s m t t' (call_of o) (answer_of a)) same answered in
     let pushed : vec_items c.push.new.self ≡ vec_items c.loop-order.answers ++ a ∷ [] = search rules in (
