@@ -7,5 +7,5 @@ abbrev pub invariant-earlier : goal.invariant-earlier
 invariant-earlier l = (l.next ≡ place_offset l.self.image.now l.counter) × ((j : ℕ) → j < l.counter → l.name ≢ name_from l.self.image.now (place_offset l.self.image.now j))
 
 -- the bytes so far are those of the name
-abbrev pub invariant-loop-a : goal.invariant-loop-a
-invariant-loop-a l = (k : ℕ) → k < length l.yielded → slice_index (l.initial.a-iterator.a.rest.now) k ≡ slice_index l.name k
+abbrev pub invariant-loop-k : goal.invariant-loop-k
+invariant-loop-k l = (i : ℕ) → i < l.k → slice_index l.other i ≡ slice_index l.name i
