@@ -56,7 +56,7 @@ module _ (bytes : List ℕ) (l : Layout) where
       ∙ ap circuit (sym e))
 
   -- the end record of an image counts the records before it
-  count_told : Held bytes l → at16 bytes (end_of l + 2) ≡ l.places + l.circuits
+  pub count_told : Held bytes l → at16 bytes (end_of l + 2) ≡ l.places + l.circuits
   count_told h =
       let i = image_held bytes l h in
       let n : ℕ = length Names + length Circuits in

@@ -1,9 +1,10 @@
 -- Every line has words, and just one list of them.
-use Rattle.std.proofs.Common.{◌≡◌, ℕ, ◌<◌, ◌≤◌, ◌⊎◌, List, [], ◌∷◌, ◌++◌, length, get_or, take, drop, sym, refl, ap, ◌∙◌, subst, inl, inr, ⊎_elim, arith}
+use Rattle.std.proofs.Common.{◌≡◌, ℕ, ◌+◌, ◌<◌, ◌≤◌, ◌⊎◌, List, [], ◌∷◌, ◌++◌, length, get_or, take, drop, set, sym, refl, ap, ◌∙◌, subst, inl, inr, ⊎_elim, append_assoc, arith, Bor}
 use Rattle.std.specs.List.{AllByRecursion}
 use Rattle.std.proofs.ByRecursion.{All-from_get_or}
-use Rattle.std.proofs.lemmas.List.{take-append-drop, length-take-le, get_or-take, drop_more, drop_all}
+use Rattle.std.proofs.lemmas.List.{take-append-drop, length-take-le, get_or-take, drop_more, drop_all, take_more_set, map_push}
 use Rattle.std.proofs.lemmas.Bool.{cases_eq, cases_lt}
+use Rattle.words.specs.Figures.{texts}
 use Rattle.orders.specs.Lines.{Blank, Inner, Off, Ends, Word, Splits, Next}
 
 -- a run of bytes of a kind, up to the first byte of another, is one
@@ -128,3 +129,14 @@ next_is line from n m within f e inside some g stops =
       within = (take n line, cut);
       splits = λ ws s. (take n line, drop m from, cut, run_of Blank line n within f, (long, run_of Inner from m inside g), run_off Inner from m stops, s);
     }
+
+-- one more word of the line is kept
+pub words_more : (line rest after : List ℕ) (words : List (Bor (List ℕ))) (count : ℕ) (x : Bor (List ℕ)) → count < length words → Next rest x.now after → ((ws : List (List ℕ)) → Splits rest ws → Splits line (texts (take count words) ++ ws)) → (ws : List (List ℕ)) → Splits after ws → Splits line (texts (take (count + 1) (set words count x)) ++ ws)
+words_more line rest after words count x h next inv ws s =
+    let kept = texts (take count words) in
+    let same : kept ++ (x.now ∷ ws) ≡ texts (take (count + 1) (set words count x)) ++ ws =
+    sym
+    (ap (λ l. texts l ++ ws) (take_more_set words count x h)
+    ∙ ap (λ l. l ++ ws) (map_push (λ y. y.now) (take count words) x)
+    ∙ append_assoc kept (x.now ∷ []) ws) in
+    subst (Splits line) same (inv (x.now ∷ ws) (next.splits ws s))

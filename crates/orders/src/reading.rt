@@ -6,7 +6,6 @@ ghost use Rattle.orders.specs.Meanings.{LineMeans, LinesSplit, OneMeaning};
 
 use crate::forms::statement;
 use crate::statement::Statement;
-use arrayvec::ArrayVec;
 use words::{Fault, Limit};
 
 // What begins a comment.
@@ -57,16 +56,19 @@ fn next_word(line: &[u8]) -> Option<(&[u8], &[u8])>
 pub fn read<S: Limit>(line: &[u8], names: &[&[u8]]) -> Result<Statement<S::Value>, Fault>
     ensures { Reads result (LineMeans S.Limit.spells (texts names.now) line.now) }
 {
-    let mut words: ArrayVec<&[u8], MAX_WORDS> = ArrayVec::new();
+    // An array and a count: the words are few and lent, and the proof rests on no crate for it.
+    let mut words = [line; MAX_WORDS];
+    let mut count = 0;
     let mut rest = line;
-    while !words.is_full() {
+    while count < MAX_WORDS {
         let Some((word, after)) = next_word(rest) else {
             break;
         };
-        words.push(word);
+        words[count] = word;
+        count += 1;
         rest = after;
     }
-    statement::<S>(&words, names)
+    statement::<S>(&words[..count], names)
 }
 
 // Every line has words, whatever its bytes are, and just one list of words.

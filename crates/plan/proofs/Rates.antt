@@ -42,7 +42,7 @@ module _ {V : Type 0} (s : Measure V) (lawful : Lawful s) (n : Network) (l : Led
       )
 
   -- at the upper rate there is none, or it is past the largest rate
-  abbrev Lacked : ℕ → Refusal → Type 0
+  abbrev pub Lacked : ℕ → Refusal → Type 0
   Lacked high why = (high ≡ 1000001) ⊎ Declined s n l a b m high limit why
 
   -- at the lower rate there is the safest pair within the limit that was found; at 0 there is none yet, and it is known why

@@ -10,8 +10,22 @@ use std::io;
 use std::io::Write;
 use words::{Fault, Limit};
 
-// What a line of the sheet says, or what is wrong with it.
-type Line<V> = Result<Statement<V>, Fault>;
+// What a line asks to be written. Its order, if it has one, stands in a list of its own, and nothing is kept of a blank line:
+// a sheet may have very many.
+#[derive(Clone, Copy)]
+enum Item {
+    Answer,
+    Routes,
+    Map,
+    Fault { line: usize, fault: Fault },
+}
+
+// What the lines ask for, in their order, and the orders among them.
+#[derive(Drop)]
+struct Sheet<V> {
+    items: Vec<Item>,
+    orders: Vec<Order<V>>,
+}
 
 // The names of the places, lent from the image.
 fn place_names<'a>(heap: Global, register: ImageRegister<'a>) -> Result<Vec<&'a [u8]>, AllocError> {
@@ -28,47 +42,48 @@ fn read_sheet<S: Limit + Scale>(
     heap: Global,
     text: &[u8],
     names: &[&[u8]],
-) -> Result<Vec<Line<S::Value>>, AllocError> {
-    text.split(|byte| *byte == b'\n')
-        .map(|line| read::<S>(line, names))
-        .collect(heap)
-}
-
-// The orders among the lines.
-fn orders_of<V: Copy>(heap: Global, sheet: &[Line<V>]) -> Result<Vec<Order<V>>, AllocError> {
-    sheet
-        .iter()
-        .filter_map(|line| match line {
-            Ok(Statement::Order(order)) => Some(*order),
-            _ => None,
-        })
-        .collect(heap)
+) -> Result<Sheet<S::Value>, AllocError> {
+    let mut items = Vec::new(heap);
+    let mut orders = Vec::new(heap);
+    for (index, line) in text.split(|byte| *byte == b'\n').enumerate() {
+        let item = match read::<S>(line, names) {
+            Ok(Statement::Blank) => continue,
+            Ok(Statement::Order(order)) => {
+                orders.push(order)?;
+                Item::Answer
+            }
+            Ok(Statement::Routes) => Item::Routes,
+            Ok(Statement::Map) => Item::Map,
+            Err(fault) => Item::Fault {
+                line: index.saturating_add(1),
+                fault,
+            },
+        };
+        items.push(item)?;
+    }
+    Ok(Sheet { items, orders })
 }
 
 // Writes what comes of each line, with the orders' answers in turn.
 fn write_sheet<S: Printed + Scale, W: Write>(
     chart: Chart<'_>,
-    sheet: &[Line<S::Value>],
+    items: &[Item],
     answers: &[Answer<S::Value>],
     out: &mut W,
 ) -> io::Result<()> {
     let mut answers = answers.iter();
     let mut last = None;
-    for (index, line) in sheet.iter().enumerate() {
-        match line {
-            Ok(Statement::Blank) => {}
-            Ok(Statement::Order(_)) => {
+    for item in items {
+        match item {
+            Item::Answer => {
                 if let Some(answer) = answers.next() {
                     write_answer::<S, W>(answer, out)?;
                     last = Last::of(answer).or(last);
                 }
             }
-            Ok(Statement::Routes) => chart.write_routes(last, out)?,
-            Ok(Statement::Map) => chart.write_map(last, out)?,
-            Err(fault) => {
-                let number = index + 1;
-                writeln!(out, "error line {number}: {fault}")?;
-            }
+            Item::Routes => chart.write_routes(last, out)?,
+            Item::Map => chart.write_map(last, out)?,
+            Item::Fault { line, fault } => writeln!(out, "error line {line}: {fault}")?,
         }
     }
     Ok(())
@@ -84,13 +99,12 @@ pub fn play<S: Printed + Limit + Scale + Drop, W: Write>(
 ) -> anyhow::Result<()> {
     let names = place_names(heap, register)?;
     let sheet = read_sheet::<S>(heap, text, &names)?;
-    let orders = orders_of(heap, &sheet)?;
-    let answers = run(heap, register, scale, &orders)?;
+    let answers = run(heap, register, scale, &sheet.orders)?;
     let chart = Chart {
         register: &register,
         names: &names,
     };
-    write_sheet::<S, W>(chart, &sheet, &answers, out)?;
+    write_sheet::<S, W>(chart, &sheet.items, &answers, out)?;
     Ok(())
 }
 

@@ -3,7 +3,7 @@ use calls::{Answer, Reply};
 use image::ImageRegister;
 use network::{Circuit, Circuits, Register};
 use std::io::Write;
-use std::{fmt, io, str};
+use std::{io, str};
 
 // The routes of the last pair that was answered.
 #[derive(Clone, Copy)]
@@ -39,37 +39,36 @@ impl<'a> Last<'a> {
     }
 }
 
-// A place's name as text. Where it is no text, and for what a drawing would take for its own, a question mark stands.
-#[derive(Clone, Copy)]
-struct Name<'a>(&'a [u8]);
-
-// The character, where it may stand in a drawing.
-fn plain(c: char) -> char {
-    if c.is_ascii_control() || c == '"' || c == '\\' {
-        '?'
-    } else {
-        c
-    }
+// Whether a drawing takes the byte of a name as it is.
+fn is_plain(byte: u8) -> bool {
+    (b' '..=b'~').contains(&byte) && byte != b'"' && byte != b'\\'
 }
 
-// The byte of a name that is no text.
-fn plain_byte(byte: u8) -> char {
-    if byte.is_ascii() {
-        plain(char::from(byte))
-    } else {
-        '?'
-    }
-}
+// The most bytes that an image gives a name.
+const LONGEST_NAME: usize = 16;
 
-impl fmt::Display for Name<'_> {
-    fn fmt<W: fmt::Write>(&self, f: &mut fmt::Formatter<W>) -> fmt::Result {
-        match str::from_utf8(self.0) {
-            Ok(text) => text.chars().try_for_each(|c| f.write_char(plain(c))),
-            Err(_) => self
-                .0
-                .iter()
-                .try_for_each(|byte| f.write_char(plain_byte(*byte))),
+// Writes a name that is not plain: a question mark stands for what a drawing would take for its own, and for each byte above
+// those of ASCII where the name is no text. In parts as long as an image's longest name, since a sheet may write names often.
+fn write_mixed<W: Write>(name: &[u8], out: &mut W) -> io::Result<()> {
+    let is_text = str::from_utf8(name).is_ok();
+    for part in name.chunks(LONGEST_NAME) {
+        let mut shown = [b'?'; LONGEST_NAME];
+        for (shown, byte) in shown.iter_mut().zip(part) {
+            if is_plain(*byte) || is_text && !byte.is_ascii() {
+                *shown = *byte;
+            }
         }
+        out.write_all(shown.get(..part.len()).unwrap_or(&shown))?;
+    }
+    Ok(())
+}
+
+// Writes a name as text. Straight out, and not by a `Display`, with which a sheet of routes took up to twice the time.
+fn write_name<W: Write>(name: &[u8], out: &mut W) -> io::Result<()> {
+    if name.iter().all(|byte| is_plain(*byte)) {
+        out.write_all(name)
+    } else {
+        write_mixed(name, out)
     }
 }
 
@@ -81,9 +80,11 @@ pub struct Chart<'a> {
 }
 
 impl<'a> Chart<'a> {
-    // The name of a place; none is written for a place without one.
-    fn name(self, place: u16) -> Name<'a> {
-        Name(self.names.get(usize::from(place)).copied().unwrap_or(b""))
+    // Writes the name of a place; nothing for a place without one.
+    fn write_place<W: Write>(self, place: u16, out: &mut W) -> io::Result<()> {
+        self.names
+            .get(usize::from(place))
+            .map_or(Ok(()), |name| write_name(name, out))
     }
 
     // The circuit of that number, beside its number.
@@ -99,20 +100,18 @@ impl<'a> Chart<'a> {
             .filter_map(|number| self.numbered(*number))
             .peekable();
         if let Some((_, circuit)) = legs.peek() {
-            let from = self.name(circuit.from);
-            write!(out, "{from}")?;
+            self.write_place(circuit.from, out)?;
         }
         for (number, circuit) in legs {
-            let sign = if last.shares(number) { '=' } else { '>' };
-            let to = self.name(circuit.to);
-            write!(out, " {sign} {to}")?;
+            out.write_all(if last.shares(number) { b" = " } else { b" > " })?;
+            self.write_place(circuit.to, out)?;
         }
         writeln!(out)
     }
 
     // The last pair by place names, and each circuit that it shares.
     pub fn write_routes<W: Write>(self, last: Option<Last<'_>>, out: &mut W) -> io::Result<()> {
-        let Some(last) = last else {
+        let Some(last) = last.filter(|last| !last.first.is_empty()) else {
             return writeln!(out, "no pair yet");
         };
         write!(out, "first:  ")?;
@@ -124,10 +123,12 @@ impl<'a> Chart<'a> {
             .iter()
             .filter_map(|number| self.numbered(*number));
         for (number, circuit) in legs.filter(|(number, _)| last.shares(*number)) {
-            let from = self.name(circuit.from);
-            let to = self.name(circuit.to);
+            write!(out, "shared: circuit {number}, ")?;
+            self.write_place(circuit.from, out)?;
+            write!(out, " = ")?;
+            self.write_place(circuit.to, out)?;
             let cost = circuit.cost;
-            writeln!(out, "shared: circuit {number}, {from} = {to}, cost {cost}")?;
+            writeln!(out, ", cost {cost}")?;
         }
         Ok(())
     }
@@ -136,9 +137,10 @@ impl<'a> Chart<'a> {
     pub fn write_map<W: Write>(self, last: Option<Last<'_>>, out: &mut W) -> io::Result<()> {
         writeln!(out, "digraph register {{")?;
         writeln!(out, "  rankdir=LR;")?;
-        for (place, name) in self.names.iter().enumerate() {
-            let name = Name(name);
-            writeln!(out, "  p{place} [label=\"{name}\"];")?;
+        for place in 0..self.register.places() {
+            write!(out, "  p{place} [label=\"")?;
+            self.write_place(place, out)?;
+            writeln!(out, "\"];")?;
         }
         self.write_arrows(last, out)?;
         writeln!(out, "}}")
@@ -163,23 +165,23 @@ impl<'a> Chart<'a> {
 
     // The register as a list: each place, then each circuit by place names.
     pub fn write_list<W: Write>(self, out: &mut W) -> io::Result<()> {
-        for (place, name) in self.names.iter().enumerate() {
-            let name = Name(name);
-            writeln!(out, "place {place}: {name}")?;
+        for place in 0..self.register.places() {
+            write!(out, "place {place}: ")?;
+            self.write_place(place, out)?;
+            writeln!(out)?;
         }
         self.write_circuits(out)
     }
 
     fn write_circuits<W: Write>(self, out: &mut W) -> io::Result<()> {
         for (number, circuit) in (0..self.register.circuits()).zip(Circuits::of(self.register)) {
-            let from = self.name(circuit.from);
-            let to = self.name(circuit.to);
+            write!(out, "circuit {number}: ")?;
+            self.write_place(circuit.from, out)?;
+            write!(out, " > ")?;
+            self.write_place(circuit.to, out)?;
             let bandwidth = circuit.bandwidth;
             let cost = circuit.cost;
-            writeln!(
-                out,
-                "circuit {number}: {from} > {to}, bandwidth {bandwidth}, cost {cost}"
-            )?;
+            writeln!(out, ", bandwidth {bandwidth}, cost {cost}")?;
         }
         Ok(())
     }

@@ -1,6 +1,5 @@
 pub mod Booking
 pub mod Entries
-pub mod Filling
 pub mod Keeping
 pub mod Marking
 pub mod Numbers

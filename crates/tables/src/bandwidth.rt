@@ -7,9 +7,8 @@ ghost use Rattle.tables.specs.contracts.rows.Tables.{the_row as tables_row};
 ghost use Rattle.tables.specs.Standing.{route_of, feed_of, left_at, taken_by, idle, with_circuit, SameButLeft, TakenOff, GivenBack};
 
 use crate::route::marks;
-use crate::rows::{CircuitState, Feed, MAX_CIRCUITS, Tables};
+use crate::rows::{CircuitState, Feed, Tables};
 use promise::Mode;
-use std::array;
 
 impl Tables {
     // Lends one circuit's state: the tables then have it as it is given back, and all else as it was.
@@ -28,11 +27,14 @@ impl Tables {
             → F.post change (left_at self.old c) (taken_by (feed_of feed.now) c) (left_at self.new c) }
         ensures rest { SameButLeft self.old self.new }
     {
-        let taken = feed.taken();
-        // By number, since the tables lend a circuit's state by its number.
-        for (number, taken) in taken[..self.circuits.len()].iter().enumerate() {
+        let first = marks(&feed.first);
+        let second = marks(&feed.second);
+        // By number, since the tables lend a circuit's state by its number. What is taken is told one by one: a list for all
+        // circuits that may be would cost a small network more than the change itself.
+        for number in 0..self.circuits.len() {
+            let taken = feed.amount(first[number], second[number]);
             let circuit = self.circuit_mut(number);
-            circuit.left = change(circuit.left, *taken);
+            circuit.left = change(circuit.left, taken);
         }
     }
 
@@ -54,16 +56,7 @@ impl Tables {
 }
 
 impl Feed {
-    // What the feed takes on each circuit.
-    fn taken(&self) -> [u32; MAX_CIRCUITS]
-        ensures { (c : ℕ) → c < 384 → slice_index_or result c 0 ≡ taken_by (feed_of self.now) c }
-    {
-        let first = marks(&self.first);
-        let second = marks(&self.second);
-        array::from_fn(|c| self.amount(first[c], second[c]))
-    }
-
-    // What it takes on a circuit, by which of its routes use it.
+    // What the feed takes on a circuit, by which of its routes use it.
     fn amount(&self, in_first: bool, in_second: bool) -> u32
         ensures { (c : ℕ) → in_first ≡ uses c (route_of self.now.first) → in_second ≡ uses c (route_of self.now.second)
             → result ≡ taken_by (feed_of self.now) c }
