@@ -47,17 +47,23 @@ fn is_plain(byte: u8) -> bool {
 // The most bytes that an image gives a name.
 const LONGEST_NAME: usize = 16;
 
-// Writes a name that is not plain: a question mark stands for what a drawing would take for its own, and for each byte above
-// those of ASCII where the name is no text. In parts as long as an image's longest name, since a sheet may write names often.
+// A part of a name as it is written: a question mark stands for what a drawing would take for its own, and for each byte that is
+// not of ASCII where the name is no text.
+fn shown(part: &[u8], is_text: bool) -> [u8; LONGEST_NAME] {
+    let mut shown = [b'?'; LONGEST_NAME];
+    for (shown, byte) in shown.iter_mut().zip(part) {
+        if is_plain(*byte) || is_text && !byte.is_ascii() {
+            *shown = *byte;
+        }
+    }
+    shown
+}
+
+// Writes a name that is not plain. In parts as long as an image's longest name, since a sheet may write names often.
 fn write_mixed<W: Write>(name: &[u8], out: &mut W) -> io::Result<()> {
     let is_text = str::from_utf8(name).is_ok();
     for part in name.chunks(LONGEST_NAME) {
-        let mut shown = [b'?'; LONGEST_NAME];
-        for (shown, byte) in shown.iter_mut().zip(part) {
-            if is_plain(*byte) || is_text && !byte.is_ascii() {
-                *shown = *byte;
-            }
-        }
+        let shown = shown(part, is_text);
         out.write_all(shown.get(..part.len()).unwrap_or(&shown))?;
     }
     Ok(())
